@@ -1,0 +1,2 @@
+// Joints: what one means, and the kinds in use.
+pub mod joint;

@@ -1,0 +1,2 @@
+// Solids: what one means, and the kinds in use.
+pub mod solid;
