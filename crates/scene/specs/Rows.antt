@@ -1,0 +1,29 @@
+-- Rows of tables as symbols of the theory. Assumes nothing.
+use Prim.Native.Nat.{ℕ}
+use mathlib.Core.Bool.{Bool}
+use mathlib.Core.List.{List, map}
+use Rattle.tree.specs.Spell.{Symbol, solid, operator}
+use Rattle.tree.specs.Tree.{union, common, cut}
+use Rattle.scene.specs.declared.node.Entry.{Entry}
+use Rattle.scene.specs.declared.node.EntryKind as e
+use Rattle.scene.specs.declared.node.EntryKind.{EntryKind}
+use Rattle.scene.specs.declared.node.Node.{Node}
+use Rattle.scene.specs.declared.node.NodeKind as n
+use Rattle.scene.specs.declared.node.NodeKind.{NodeKind}
+
+abbrev pub node-symbol-of : NodeKind → Bool → ℕ → Symbol
+node-symbol-of n.the-variants.Solid turned number = solid turned number
+node-symbol-of n.the-variants.Union turned number = operator union turned number
+node-symbol-of n.the-variants.Common turned number = operator common turned number
+node-symbol-of n.the-variants.Cut turned number = operator cut turned number
+
+abbrev pub node-symbol : Node → Symbol
+node-symbol row = node-symbol-of (row .kind) (row .turned) (row .number)
+
+abbrev pub entry-symbol-of : EntryKind → Bool → ℕ → Symbol
+entry-symbol-of e.the-variants.Solid turned number = solid turned number
+entry-symbol-of e.the-variants.Union turned number = operator union turned number
+entry-symbol-of e.the-variants.Common turned number = operator common turned number
+
+abbrev pub entry-symbol : Entry → Symbol
+entry-symbol row = entry-symbol-of (row .kind) (row .turned) (row .number)

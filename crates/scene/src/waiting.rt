@@ -1,0 +1,8 @@
+// The values that wait while a list is worked out: at most 64.
+ghost use Prim.Native.Nat.{_≤_};
+
+pub(crate) struct Waiting {
+    values: [i32; 64],
+    count: usize,
+    ghost few: { count ≤ 64 },
+}

@@ -1,0 +1,5 @@
+pub mod Order
+pub mod Parts
+pub mod Spell
+pub mod Tree
+pub mod Whole

@@ -1,0 +1,18 @@
+// The theory of scenes: trees of solids, their distance, and their post-order lists. Each function
+// answers 0; its contract is a theorem about the definitions that the code's contracts cite.
+ghost use Rattle.tree.specs.Order.{Order-law};
+ghost use Rattle.tree.specs.Whole.{Whole-law};
+
+// A list has no fault exactly when it spells a tree of depth 64 at most, and it spells one tree only.
+pub fn order_law() -> u8
+    ensures { λ _. ⌜ Order-law ⌝ }
+{
+    0
+}
+
+// The whole list spells the whole tree, and the whole tree has the tree's distance at every point.
+pub fn whole_law() -> u8
+    ensures { λ _. ⌜ Whole-law ⌝ }
+{
+    0
+}
