@@ -1,4 +1,5 @@
 // Scenes: node tables, their whole lists, and the distance of a checked scene.
-pub mod node;
+mod evaluate;
+mod joining;
+mod stack;
 mod waiting;
-

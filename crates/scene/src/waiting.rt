@@ -2,7 +2,7 @@
 ghost use Prim.Native.Nat.{_≤_};
 
 pub(crate) struct Waiting {
-    values: [i32; 64],
-    count: usize,
+    pub(crate) values: [i32; 64],
+    pub(crate) count: usize,
     ghost few: { count ≤ 64 },
 }

@@ -6,16 +6,17 @@ use lib.IntN.{ℤ, pos}
 use Rattle.space.specs.Pt.{Pt}
 use Rattle.tree.specs.Parts.{Parts}
 use Rattle.tree.specs.Spell.{Symbol, solid, operator, spell}
+use Rattle.tree.specs.Stepped.{stepped}
 use Rattle.tree.specs.Tree.{Tree, leaf, join, value, handed, joined}
 
--- the value on top at the end, from the values that wait now
-abbrev pub run : Parts → Pt → List Symbol → List ℤ → ℤ
-run P p [] [] = pos 0
-run P p [] (v ∷ st) = v
-run P p (solid turned n ∷ rest) st = run P p rest (handed turned (P .distance n p) ∷ st)
-run P p (operator op turned n ∷ rest) [] = pos 0
-run P p (operator op turned n ∷ rest) (b ∷ []) = pos 0
-run P p (operator op turned n ∷ rest) (b ∷ a ∷ st) = run P p rest (handed turned (joined op (P .fillet n) a b) ∷ st)
+abbrev pub top : List ℤ → ℤ
+top [] = pos 0
+top (v ∷ st) = v
+
+-- the values that wait after a list
+abbrev pub run : Parts → Pt → List Symbol → List ℤ → List ℤ
+run P p [] st = st
+run P p (s ∷ rest) st = run P p rest (stepped P p s st)
 
 pub run-spell : (P : Parts) (p : Pt) (t : Tree) (rest : List Symbol) (st : List ℤ) → run P p (spell t ++ rest) st ≡ run P p rest (value P t p ∷ st)
 unfolding spell value
@@ -24,5 +25,5 @@ run-spell P p (join op turned n a b) rest st =
     let o = operator op turned n ∷ rest in
     simp append-assoc (run-spell P p a (spell b ++ o) st ∙ run-spell P p b o (value P a p ∷ st))
 
-pub run-tree : (P : Parts) (p : Pt) (t : Tree) → run P p (spell t) [] ≡ value P t p
+pub run-tree : (P : Parts) (p : Pt) (t : Tree) → run P p (spell t) [] ≡ value P t p ∷ []
 run-tree P p t = ap (λ l. run P p l []) (sym (append-nil (spell t))) ∙ run-spell P p t [] []

@@ -1,5 +1,7 @@
 pub mod Order
 pub mod Parts
+pub mod Rows
 pub mod Spell
+pub mod Stepped
 pub mod Tree
 pub mod Whole

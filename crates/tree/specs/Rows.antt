@@ -2,14 +2,14 @@
 use Prim.Native.Nat.{ℕ}
 use mathlib.Core.Bool.{Bool}
 use mathlib.Core.List.{List, map}
 use Rattle.tree.specs.Spell.{Symbol, solid, operator}
 use Rattle.tree.specs.Tree.{union, common, cut}
-use Rattle.scene.specs.declared.node.Entry.{Entry}
-use Rattle.scene.specs.declared.node.EntryKind as e
-use Rattle.scene.specs.declared.node.EntryKind.{EntryKind}
-use Rattle.scene.specs.declared.node.Node.{Node}
-use Rattle.scene.specs.declared.node.NodeKind as n
-use Rattle.scene.specs.declared.node.NodeKind.{NodeKind}
+use Rattle.tree.specs.declared.node.Entry.{Entry}
+use Rattle.tree.specs.declared.node.EntryKind as e
+use Rattle.tree.specs.declared.node.EntryKind.{EntryKind}
+use Rattle.tree.specs.declared.node.Node.{Node}
+use Rattle.tree.specs.declared.node.NodeKind as n
+use Rattle.tree.specs.declared.node.NodeKind.{NodeKind}
 
 abbrev pub node-symbol-of : NodeKind → Bool → ℕ → Symbol
 node-symbol-of n.the-variants.Solid turned number = solid turned number

@@ -1,6 +1,6 @@
 // The rows of a node table and of a list.
 
-#[derive(Clone, Copy, PartialEq, Eq, Debug)]
+#[derive(Clone, Copy)]
 pub enum NodeKind {
     Solid,
     Union,
@@ -9,7 +9,7 @@ pub enum NodeKind {
 }
 
 // A row of a scene's node table. Nodes stand in post-order: both operands, then the operator.
-#[derive(Clone, Copy, PartialEq, Eq, Debug)]
+#[derive(Clone, Copy)]
 pub struct Node {
     pub kind: NodeKind,
     // whether the node hands up its raw value negated
@@ -18,7 +18,7 @@ pub struct Node {
     pub number: u16,
 }
 
-#[derive(Clone, Copy, PartialEq, Eq, Debug)]
+#[derive(Clone, Copy)]
 pub enum EntryKind {
     Solid,
     Union,
@@ -26,7 +26,7 @@ pub enum EntryKind {
 }
 
 // A row of a list that is evaluated: a node, with no cut among the kinds.
-#[derive(Clone, Copy, PartialEq, Eq, Debug)]
+#[derive(Clone, Copy)]
 pub struct Entry {
     pub kind: EntryKind,
     pub turned: bool,
