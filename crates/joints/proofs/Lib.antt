@@ -1,0 +1,2 @@
+pub mod Fillets
+pub mod Quotients
