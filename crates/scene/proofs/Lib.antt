@@ -1,1 +1,4 @@
+pub mod Loops
 pub mod Stacks
+pub mod Steps
+pub mod Tables

@@ -24,6 +24,6 @@ depth (join op turned n a b) = max (depth a) (suc (depth b))
 -- What it is for: a list has no fault exactly when it spells a tree of depth 64 at most, and only one tree.
 abbrev pub Order-law : Type 0
 Order-law = (l : List Symbol)
-  → (order-fault 0 0 l ≡ None → (t : Tree) × (spell t ≡ l) × (depth t ≤ 64))
-  × ((t : Tree) → spell t ≡ l → depth t ≤ 64 → order-fault 0 0 l ≡ None)
-  × ((t u : Tree) → spell t ≡ l → spell u ≡ l → t ≡ u)
+    → (order-fault 0 0 l ≡ None → (t : Tree) × (spell t ≡ l) × (depth t ≤ 64))
+    × ((t : Tree) → spell t ≡ l → depth t ≤ 64 → order-fault 0 0 l ≡ None)
+    × ((t u : Tree) → spell t ≡ l → spell u ≡ l → t ≡ u)

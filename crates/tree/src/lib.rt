@@ -2,6 +2,7 @@
 // answers 0; its contract is a theorem about the definitions that the code's contracts cite.
 ghost use Rattle.tree.specs.Order.{Order-law};
 ghost use Rattle.tree.specs.Whole.{Whole-law};
+
 pub mod node;
 
 // A list has no fault exactly when it spells a tree of depth 64 at most, and it spells one tree only.
