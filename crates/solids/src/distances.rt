@@ -69,11 +69,11 @@ impl Probed {
     pub(crate) fn distance(&self, p: Point) -> i32
         ensures { λ r. ⌜ r ≡ probed-distance (now (self .entry)) (at p) ⌝ }
     {
-        let mut near = root_of(squared_distance(p, self.centres[0]));
+        let mut near = squared_distance(p, self.centres[0]);
         for i in 1..self.count as usize {
-            near = near.min(root_of(squared_distance(p, self.centres[i])));
+            near = near.min(squared_distance(p, self.centres[i]));
         }
-        near - self.radius as i32
+        root_of(near) - self.radius as i32
     }
 }
 
