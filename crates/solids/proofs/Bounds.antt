@@ -9,13 +9,10 @@ use mir.Val.{SFits, toZ, ofZ}
 use Rattle.std.proofs.shelf.Signed.{ints, toZ-ofZ}
 use Rattle.space.specs.Pt.{InRange}
 use Rattle.space.specs.Root.{root}
-use Rattle.space.proofs.Roots.{root-is, square-lt-back}
+use Rattle.space.proofs.Minima.{root-below}
 
 pub root-small : (n : ℕ) → n < 2 ^ 32 → root n ≤ 65535
-root-small n h =
-    let s = root-is n in
-    let lt = square-lt-back (root n) 65536 (omega arith) in
-    omega arith
+root-small n h = let lt = root-below n 65536 (omega arith) in omega arith
 
 pub product-abs : (a b : ℤ) → natAbs (a *ℤ b) ≡ natAbs a * natAbs b
 product-abs (pos a) (pos b) = omega arith

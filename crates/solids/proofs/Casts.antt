@@ -37,6 +37,12 @@ normal n h = omega (arith, ints)
 pub normal-small : (n : ℤ) → natAbs n ≤ 4096 → natAbs (read-16 n) ≤ 4096
 normal-small n h = omega (arith, ints)
 
+pub less-fits : (r : ℤ) (k : ℕ) → natAbs r ≤ 65535 → k ≤ 65535 → SFits w32 (read-32 r -ℤ toZ w32 k)
+less-fits r k h l = omega (arith, ints)
+
+pub read-bound : (r : ℤ) → natAbs r ≤ 65535 → natAbs (read-32 r) ≤ 65535
+read-bound r h = omega (arith, ints)
+
 -- a number of the distances less a radius
 pub less-flat : (n k : ℕ) → n ≤ 65535 → k ≤ 65535 → read-32 (toZ w32 n -ℤ toZ w32 k) ≡ pos n -ℤ pos k
 less-flat n k h l = omega (arith, ints)
@@ -119,6 +125,9 @@ module _ (x y z a t : ℤ) (fx : SFits w32 x) (fy : SFits w32 y) (fz : SFits w32
   top =
       let first : a ≡ maxZ x y = e ∙ ap₂ maxZ (toZ-ofZ w32 x fx) (toZ-ofZ w32 y fy) in
       f ∙ ap₂ maxZ (toZ-ofZ w32 a fa ∙ first) (toZ-ofZ w32 z fz)
+
+  pub inside-small : natAbs x ≤ 16383 → natAbs y ≤ 16383 → natAbs z ≤ 16383 → natAbs (read-32 t) ≤ 65535
+  inside-small hx hy hz = let k = top in omega (arith, ints, clamps)
 
   pub inside : SFits w32 t → leZ (read-32 t) (pos 0) ≡ true → read-32 t ≡ box-distance x y z
   unfolding box-distance

@@ -80,7 +80,7 @@ impl Probed {
 // The root of a squared distance.
 fn root_of(squared: u32) -> i32
     ensures value { λ r. ⌜ r ≡ pos (root squared) ⌝ }
-    ensures bound { λ r. ⌜ r ≤ℤ pos 65535 ⌝ }
+    ensures bound { λ r. ⌜ natAbs r ≤ 65535 ⌝ }
 {
     floor_root(squared) as i32
 }
