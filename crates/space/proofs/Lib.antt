@@ -1,2 +1,4 @@
+pub mod Minima
 pub mod Ranges
 pub mod Roots
+pub mod Triangles
