@@ -1,0 +1,3 @@
+// Scene files: one reader for every make.
+pub mod counts;
+pub mod header;
