@@ -47,7 +47,11 @@ fn check_counts(bytes: &[u8], make: u16) -> Result<Counts, Refusal>
     if nodes < 1 || 1023 < nodes {
         return Err(Refusal::Count(Table::Nodes));
     }
-    Ok(Counts { solids, joints, nodes })
+    Ok(Counts {
+        solids,
+        joints,
+        nodes,
+    })
 }
 
 // The tables begin where they have to, and the file ends with the last.
@@ -95,7 +99,12 @@ fn check_rooms(bytes: &[u8], rooms: Rooms, counts: Counts) -> Result<(), Refusal
 
 // The counts of a file whose header has no fault, for a make, the length of its solid records, and
 // tables with this many rows.
-pub(crate) fn check_header(bytes: &[u8], make: u16, size: usize, rooms: Rooms) -> Result<Counts, Refusal>
+pub(crate) fn check_header(
+    bytes: &[u8],
+    make: u16,
+    size: usize,
+    rooms: Rooms,
+) -> Result<Counts, Refusal>
     requires { ⌜ size ≤ 1024 ⌝ }
     ensures { λ r. ⌜ Cases r (λ c. (header-fault make size (now (bytes .entry)) rooms ≡ None) × Counted (now (bytes .entry)) c) (λ e. header-fault make size (now (bytes .entry)) rooms ≡ Some e) ⌝ }
 {
