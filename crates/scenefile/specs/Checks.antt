@@ -24,6 +24,3 @@ Check = Refusal → Type 0
 abbrev pub Passes : Check → Type 0
 Passes check = (e : Refusal) → check e → ⊥
 
--- no value is written so
-abbrev pub Nobodys : {X : Type 0} → (X → List ℕ) → List ℕ → Type 0
-Nobodys {X = X} record-of bytes = (x : X) → record-of x ≡ bytes → ⊥

@@ -18,3 +18,7 @@ pub record First (P : ℕ → Type 0) (limit n : ℕ) : Type 0 where
   pub within : n < limit
   pub here : P n
   pub before : (k : ℕ) → k < n → P k → ⊥
+
+-- no value is written so
+abbrev pub Nobodys : {X : Type 0} → (X → List ℕ) → List ℕ → Type 0
+Nobodys {X = X} written bytes = (x : X) → written x ≡ bytes → ⊥

@@ -1,3 +1,5 @@
 // Scene files: one reader for every make.
 pub mod counts;
-pub mod header;
+mod header;
+pub mod record;
+mod rows;
