@@ -1,3 +1,4 @@
 pub mod Bounds
 pub mod Casts
+pub mod Keeping
 pub mod Least
