@@ -6,6 +6,8 @@ use lib.IntN.{ℤ, pos, negsuc, _-ℤ_, natAbs}
 use lib.Signed.{_≤ℤ_}
 use Rattle.std.specs.Numbers.{maxZ}
 use Rattle.std.proofs.shelf.Signed.{ints, clamps}
+use Rattle.space.specs.At.{at}
+use Rattle.space.specs.declared.point.Point.{Point}
 use Rattle.space.specs.Laws.{DistanceLaw, DistanceRange}
 use Rattle.space.specs.Pt.{Pt, InSpace, InRange, apart²}
 use Rattle.space.specs.Root.{root}
@@ -91,3 +93,7 @@ roomy-apart c k p i =
       (differ (p .z) (c .z) (i .z-in) (k .z-in))
       (omega arith)
     )
+
+-- a `Point` is in space
+pub stands : (c : Point) → InSpace (at c)
+stands c = record { x-in = c .«x_in»; y-in = c .«y_in»; z-in = c .«z_in» }
