@@ -54,13 +54,13 @@ ways a b c = omega (arith, ints)
 
 -- the root of a sum of squares of distances along some axes, where two points are δ apart along each
 pub root-near : (δ₁ δ₂ δ₃ p₁ p₂ p₃ q₁ q₂ q₃ m n r : ℕ)
-  → squares δ₁ δ₂ δ₃ ≤ r * r
-  → (p₁ ≤ δ₁ + q₁) × (q₁ ≤ δ₁ + p₁)
-  → (p₂ ≤ δ₂ + q₂) × (q₂ ≤ δ₂ + p₂)
-  → (p₃ ≤ δ₃ + q₃) × (q₃ ≤ δ₃ + p₃)
-  → m ≡ squares p₁ p₂ p₃
-  → n ≡ squares q₁ q₂ q₃
-  → natAbs (pos (root m) -ℤ pos (root n)) ≤ r
+    → squares δ₁ δ₂ δ₃ ≤ r * r
+    → (p₁ ≤ δ₁ + q₁) × (q₁ ≤ δ₁ + p₁)
+    → (p₂ ≤ δ₂ + q₂) × (q₂ ≤ δ₂ + p₂)
+    → (p₃ ≤ δ₃ + q₃) × (q₃ ≤ δ₃ + p₃)
+    → m ≡ squares p₁ p₂ p₃
+    → n ≡ squares q₁ q₂ q₃
+    → natAbs (pos (root m) -ℤ pos (root n)) ≤ r
 root-near δ₁ δ₂ δ₃ p₁ p₂ p₃ q₁ q₂ q₃ m n r h x y z e f =
     between (root m) (root n) r
     (root-triangle δ₁ δ₂ δ₃ q₁ q₂ q₃ p₁ p₂ p₃ r n m h (x .0) (y .0) (z .0) (omega arith) (omega arith))
@@ -87,11 +87,11 @@ roomy-root n h = omega (arith, ints)
 pub roomy-apart : (c : Pt) → InSpace c → (p : Pt) → InSpace p → Roomy (pos (root (apart² p c)))
 roomy-apart c k p i =
     roomy-root (root (apart² p c)) (
-      root-roomy _ _ _ (apart² p c)
-      (differ (p .x) (c .x) (i .x-in) (k .x-in))
-      (differ (p .y) (c .y) (i .y-in) (k .y-in))
-      (differ (p .z) (c .z) (i .z-in) (k .z-in))
-      (omega arith)
+    root-roomy _ _ _ (apart² p c)
+    (differ (p .x) (c .x) (i .x-in) (k .x-in))
+    (differ (p .y) (c .y) (i .y-in) (k .y-in))
+    (differ (p .z) (c .z) (i .z-in) (k .z-in))
+    (omega arith)
     )
 
 -- a `Point` is in space

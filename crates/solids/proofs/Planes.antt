@@ -25,16 +25,16 @@ distributes n a b =
     let d = a -ℤ b in
     let e : up d + down a + up b ≡ down d + up a + down b = omega (arith, sum-is a (negℤ b), neg-is b) in
     same-in (n *ℤ a -ℤ n *ℤ b) (n *ℤ d) (
-      omega (
-        arith,
-        scale (up n) (up d) (down a) (up b) (down d) (up a) (down b) e,
-        scale (down n) (up d) (down a) (up b) (down d) (up a) (down b) e,
-        product-is n d,
-        product-is n a,
-        product-is n b,
-        sum-is (n *ℤ a) (negℤ (n *ℤ b)),
-        neg-is (n *ℤ b),
-      )
+    omega (
+      arith,
+      scale (up n) (up d) (down a) (up b) (down d) (up a) (down b) e,
+      scale (down n) (up d) (down a) (up b) (down d) (up a) (down b) e,
+      product-is n d,
+      product-is n a,
+      product-is n b,
+      sum-is (n *ℤ a) (negℤ (n *ℤ b)),
+      neg-is (n *ℤ b),
+    )
     )
 
 -- ---- floor division
@@ -102,7 +102,7 @@ near-plane s p q r i j h =
     let d₂ = p .y -ℤ q .y in
     let d₃ = p .z -ℤ q .z in
     let g = gathered (n₁ *ℤ p .x) (n₂ *ℤ p .y) (n₃ *ℤ p .z) (n₁ *ℤ q .x) (n₂ *ℤ q .y) (n₃ *ℤ q .z) (n₁ *ℤ d₁) (n₂ *ℤ d₂) (n₃ *ℤ d₃) (s .offset)
-      (distributes n₁ (p .x) (q .x)) (distributes n₂ (p .y) (q .y)) (distributes n₃ (p .z) (q .z)) in
+    (distributes n₁ (p .x) (q .x)) (distributes n₂ (p .y) (q .y)) (distributes n₃ (p .z) (q .z)) in
     let c = cauchy (natAbs n₁) (natAbs n₂) (natAbs n₃) (natAbs d₁) (natAbs d₂) (natAbs d₃) (s .length) r (s .«long_enough») h in
     floor-near (along-normal s p -ℤ s .offset) (along-normal s q -ℤ s .offset) (s .length) r (length-pos s)
     (omega (arith, g, c, product-abs n₁ d₁, product-abs n₂ d₂, product-abs n₃ d₃))
@@ -120,10 +120,10 @@ ranged-plane s p i =
     let n₃ = s .«normal_z» in
     let g = spread (n₁ *ℤ p .x) (n₂ *ℤ p .y) (n₃ *ℤ p .z) (s .offset) in
     let inside : squares (natAbs (p .x)) (natAbs (p .y)) (natAbs (p .z)) ≤ 14189 * 14189 =
-      omega (arith, square-le (reach (p .x) (i .x-in)), square-le (reach (p .y) (i .y-in)), square-le (reach (p .z) (i .z-in))) in
+    omega (arith, square-le (reach (p .x) (i .x-in)), square-le (reach (p .y) (i .y-in)), square-le (reach (p .z) (i .z-in))) in
     let c = cauchy (natAbs n₁) (natAbs n₂) (natAbs n₃) (natAbs (p .x)) (natAbs (p .y)) (natAbs (p .z)) (s .length) 14189 (s .«long_enough») inside in
     let f = floor-near (along-normal s p -ℤ s .offset) (pos 0) (s .length) 30573 (length-pos s)
-      (omega (arith, g, c, s .«offset_in», product-abs n₁ (p .x), product-abs n₂ (p .y), product-abs n₃ (p .z))) in
+    (omega (arith, g, c, s .«offset_in», product-abs n₁ (p .x), product-abs n₂ (p .y), product-abs n₃ (p .z))) in
     settled (floor-div (along-normal s p -ℤ s .offset) (s .length)) (0 / s .length) (zero-div (s .length)) f
   where
     settled : (f : ℤ) (t : ℕ) → t ≡ 0 → natAbs (f -ℤ pos t) ≤ 30573 → natAbs f ≤ 32767
