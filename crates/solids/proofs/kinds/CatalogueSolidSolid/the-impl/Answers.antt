@@ -1,8 +1,3 @@
-<<<<<<< HEAD
-use native.Mathlib.Omega.{arith}
-use Prim.Native.Nat.{_≤_}
-=======
->>>>>>> solids
 use lib.IntN.{pos, _-ℤ_}
 use Rattle.space.specs.At.{at}
 use Rattle.space.specs.Pt.{apart²}

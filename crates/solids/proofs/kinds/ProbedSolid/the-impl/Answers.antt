@@ -1,8 +1,4 @@
 use native.Mathlib.Omega.{arith}
-<<<<<<< HEAD
-use Prim.Native.Nat.{_≤_}
-=======
->>>>>>> solids
 use lib.IntN.{pos}
 use lib.ListN.{take}
 use Rattle.solids.specs.Probed.{least, roots, probed-distance}
