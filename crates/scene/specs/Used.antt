@@ -5,11 +5,15 @@ use mathlib.Core.List.{List, [], _∷_}
 use lib.Dec.{eqb}
 use Rattle.tree.specs.Spell.{Symbol, solid, operator}
 
--- whether some symbol names the solid s
+-- whether a symbol names the solid s
+abbrev pub names-it : ℕ → Symbol → Bool
+names-it s (solid turned n) = eqb n s
+names-it s (operator op turned n) = false
+
+-- whether some symbol does
 abbrev pub names : ℕ → List Symbol → Bool
 names s [] = false
-names s (solid turned n ∷ rest) = eqb n s || names s rest
-names s (operator op turned n ∷ rest) = names s rest
+names s (x ∷ rest) = names-it s x || names s rest
 
 -- whether every solid below a count is named
 abbrev pub all-used : ℕ → List Symbol → Bool

@@ -3,7 +3,7 @@ ghost use Prim.Native.Nat.{_<_};
 ghost use mathlib.Core.Bool.{true, false};
 ghost use mathlib.Core.List.{map};
 ghost use mathlib.Core.Path.{_≡_};
-ghost use Rattle.scene.specs.Used.{names, all-used};
+ghost use Rattle.scene.specs.Used.{names, names-it, all-used};
 ghost use Rattle.std.specs.Options.{Cases};
 ghost use Rattle.tree.specs.Order.{order-fault};
 ghost use Rattle.tree.specs.Rows.{node-symbol};
@@ -16,7 +16,7 @@ use tree::node::NodeKind;
 pub(crate) fn find_order_fault(nodes: &[Node]) -> Option<usize>
     ensures { λ r. ⌜ r ≡ order-fault 0 0 (map node-symbol (now (nodes .entry))) ⌝ }
 {
-    let mut waiting = 0;
+    let mut waiting = 0usize;
     for (i, node) in nodes.iter().enumerate() {
         if is_solid(*node) {
             if waiting >= 64 {
@@ -39,12 +39,22 @@ fn is_solid(node: Node) -> bool
     matches!(node.kind, NodeKind::Solid)
 }
 
-// Whether some node names this solid.
-fn names_solid(nodes: &[Node], solid: usize) -> bool
+// Whether a node names this solid.
+fn is_named(node: Node, solid: usize) -> bool
+    ensures { λ r. ⌜ r ≡ names-it solid (node-symbol node) ⌝ }
+{
+    match node.kind {
+        NodeKind::Solid => node.number as usize == solid,
+        _ => false,
+    }
+}
+
+// Whether some node does.
+fn some_named(nodes: &[Node], solid: usize) -> bool
     ensures { λ r. ⌜ r ≡ names solid (map node-symbol (now (nodes .entry))) ⌝ }
 {
     for node in nodes {
-        if is_solid(*node) && node.number as usize == solid {
+        if is_named(*node, solid) {
             return true;
         }
     }
@@ -56,7 +66,7 @@ pub(crate) fn find_unused(nodes: &[Node], solids: usize) -> Option<usize>
     ensures { λ r. ⌜ Cases r (all-used solids (map node-symbol (now (nodes .entry))) ≡ true) (λ s. (s < solids) × (names s (map node-symbol (now (nodes .entry))) ≡ false)) ⌝ }
 {
     for s in 0..solids {
-        if !names_solid(nodes, s) {
+        if !some_named(nodes, s) {
             return Some(s);
         }
     }
