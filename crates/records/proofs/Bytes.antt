@@ -1,0 +1,30 @@
+-- Bytes as the elements of a list, and as the digits of a number. Assumes nothing.
+use Prim.Native.Nat.{ℕ, zero, suc, _+_, _*_, _/_, _%_, _<_, _^_}
+use native.Mathlib.Omega.{arith}
+use mathlib.Core.List.{List, [], _∷_}
+use mathlib.Core.Path.{_≡_, refl, ap, _∙_}
+use lib.ListN.{length, getD}
+use Rattle.records.specs.LittleEndian.{u16-le, u32-le}
+
+-- n elements of a list, from place i on
+abbrev pub elements : ℕ → ℕ → List ℕ → List ℕ
+elements i zero xs = []
+elements i (suc n) xs = getD xs i 0 ∷ elements (suc i) n xs
+
+elements-tail : (i n x : ℕ) (xs : List ℕ) → elements (suc i) n (x ∷ xs) ≡ elements i n xs
+elements-tail i zero x xs = refl
+elements-tail i (suc n) x xs = ap (λ ys. getD xs i 0 ∷ ys) (elements-tail (suc i) n x xs)
+
+-- a list is all of its elements
+pub elements-all : (n : ℕ) (xs : List ℕ) → length xs ≡ n → elements 0 n xs ≡ xs
+elements-all zero [] e = refl
+elements-all zero (x ∷ xs) e = absurd (let f : ⊥ = omega arith in f)
+elements-all (suc n) [] e = absurd (let f : ⊥ = omega arith in f)
+elements-all (suc n) (x ∷ xs) e =
+    ap (λ ys. x ∷ ys) (elements-tail 0 n x xs ∙ elements-all n xs (omega arith))
+
+pub u16-le-is : (a b : ℕ) → a < 256 → u16-le (a + b * 256) ≡ a ∷ b ∷ []
+u16-le-is a b h =
+    let p : (a + b * 256) % 256 ≡ a = omega arith in
+    let q : (a + b * 256) / 256 ≡ b = omega arith in
+    simp (p, q)

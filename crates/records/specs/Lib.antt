@@ -1,0 +1,3 @@
+pub mod LittleEndian
+pub mod Node
+pub mod Reads

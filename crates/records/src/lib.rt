@@ -1,0 +1,2 @@
+// The records of a scene file.
+pub mod node;
