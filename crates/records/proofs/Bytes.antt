@@ -1,9 +1,11 @@
 -- Bytes as the elements of a list, and as the digits of a number. Assumes nothing.
 use Prim.Native.Nat.{ℕ, zero, suc, _+_, _*_, _/_, _%_, _<_, _^_}
 use native.Mathlib.Omega.{arith}
-use mathlib.Core.List.{List, [], _∷_}
+use mathlib.Core.List.{List, [], _∷_, _++_}
 use mathlib.Core.Path.{_≡_, refl, ap, _∙_}
 use lib.ListN.{length, getD}
+use mir.Syntax.{w8}
+use mir.Val.{Fits}
 use Rattle.records.specs.LittleEndian.{u16-le, u32-le}
 
 -- n elements of a list, from place i on
@@ -28,3 +30,11 @@ u16-le-is a b h =
     let p : (a + b * 256) % 256 ≡ a = omega arith in
     let q : (a + b * 256) / 256 ≡ b = omega arith in
     simp (p, q)
+
+-- four bytes are two numbers
+pub two-u16 : (xs : List ℕ) → ((i : ℕ) → Fits w8 (getD xs i 0)) → length xs ≡ 4 → u16-le (getD xs 0 0 + getD xs 1 0 * 256) ++ u16-le (getD xs 2 0 + getD xs 3 0 * 256) ≡ xs
+two-u16 xs typed l =
+    let all = elements-all 4 xs l in
+    let a = u16-le-is (getD xs 0 0) (getD xs 1 0) (omega (arith, typed 0)) in
+    let b = u16-le-is (getD xs 2 0) (getD xs 3 0) (omega (arith, typed 2)) in
+    cc

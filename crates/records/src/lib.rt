@@ -1,2 +1,4 @@
 // The records of a scene file.
+pub mod joint;
+pub mod make;
 pub mod node;
