@@ -1,2 +1,3 @@
+pub mod Minima
 pub mod Ranges
 pub mod Roots

@@ -1,0 +1,3 @@
+pub mod Bounds
+pub mod Casts
+pub mod Least
