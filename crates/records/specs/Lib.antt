@@ -1,4 +1,5 @@
 pub mod Joint
 pub mod LittleEndian
 pub mod Node
+pub mod Raw
 pub mod Reads

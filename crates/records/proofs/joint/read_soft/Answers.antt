@@ -1,5 +1,5 @@
 use borrow.Author.Needs.{needs}
-use Rattle.records.proofs.Bytes.{two-u16}
+use Rattle.records.proofs.Digits.{two-u16}
 use Rattle.records.proofs.joint.read_soft.Needs as need
 
 pub returns-in-2 : need.returns-in-2

@@ -7,7 +7,7 @@ use mathlib.Core.Path.{_≡_, ap, _∙_}
 use lib.ListN.{getD}
 use Rattle.records.specs.LittleEndian.{u16-le}
 use Rattle.records.specs.Node.{kind-number}
-use Rattle.records.proofs.Bytes.{elements-all, u16-le-is}
+use Rattle.records.proofs.Digits.{elements-all, u16-le-is}
 use Rattle.records.proofs.node.read_node.Needs as need
 use Rattle.records.proofs.node.read_node.Needs.{in-1, in-2, in-3, in-4, in-0, in-1-turned}
 
