@@ -1,3 +1,4 @@
+pub mod Catalogue
 pub mod Joint
 pub mod LittleEndian
 pub mod Node

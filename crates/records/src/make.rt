@@ -49,6 +49,7 @@ pub impl Make for CatalogueMake as CatalogueMakeMake {
     type Joint = HouseJoint;
 
     const NUMBER: u16 = 1;
+
     const SOLID_LENGTH: usize = 20;
 
     ghost make = { 1 };

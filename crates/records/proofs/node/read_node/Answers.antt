@@ -17,14 +17,14 @@ returns c =
     let all = elements-all 4 bytes (search needs) in
     let low : getD bytes 2 0 < 256 = omega (arith, c .typed .bytes 2) in
     let kind : kind-number (c .match-kind .kind) ≡ getD bytes 0 0 =
-        elim (c .match-kind .came) [
-          in-1 w ↦ search needs
-        | in-2 w ↦ search needs
-        | in-3 w ↦ search needs
-        | in-4 w ↦ search needs
-        ] in
+    elim (c .match-kind .came) [
+      | in-1 w ↦ search needs
+      | in-2 w ↦ search needs
+      | in-3 w ↦ search needs
+      | in-4 w ↦ search needs
+    ] in
     let turned : cond (c .match-turned .turned) 1 0 ≡ getD bytes 1 0 =
-        elim (c .match-turned .came) [ in-0 w ↦ search needs | in-1-turned w ↦ search needs ] in
+    elim (c .match-turned .came) [ in-0 w ↦ search needs | in-1-turned w ↦ search needs ] in
     let number : u16-le (c .from-le-bytes-number .result) ≡ getD bytes 2 0 ∷ getD bytes 3 0 ∷ [] =
-        ap u16-le (c .from-le-bytes-number .ensures) ∙ u16-le-is _ _ low in
+    ap u16-le (c .from-le-bytes-number .ensures) ∙ u16-le-is _ _ low in
     cc

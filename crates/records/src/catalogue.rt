@@ -1,0 +1,78 @@
+// Records of catalogue solids.
+ghost use Prim.Native.Nat.{_+_, _*_, _-_, _<_, _≤_};
+ghost use mathlib.Core.Path.{_≡_};
+ghost use Rattle.space.specs.At.{at};
+ghost use Rattle.records.specs.Catalogue.{ball-fields, block-fields, drum-fields, centre-field};
+ghost use Rattle.records.specs.Reads.{Reads};
+use crate::point::point;
+use crate::raw::RawSolid;
+use solids::catalogue::Axis;
+use solids::catalogue::Ball;
+use solids::catalogue::Block;
+use solids::catalogue::Drum;
+use space::point::Point;
+
+fn read_centre(raw: RawSolid) -> Option<Point>
+    ensures { λ r. ⌜ Reads at (centre-field raw) r ⌝ }
+{
+    point(raw.x, raw.y, raw.z)
+}
+
+fn read_ball(raw: RawSolid) -> Option<Ball>
+    requires { ⌜ raw .kind ≡ 1 ⌝ }
+    ensures { λ r. ⌜ Reads ball-fields raw r ⌝ }
+{
+    if raw.r > 8192 || raw.h0 != 0 || raw.h1 != 0 || raw.h2 != 0 || raw.d != 0 {
+        return None;
+    }
+    let Some(centre) = read_centre(raw) else {
+        return None;
+    };
+    Some(Ball {
+        centre,
+        radius: raw.r,
+    })
+}
+
+fn read_block(raw: RawSolid) -> Option<Block>
+    requires { ⌜ raw .kind ≡ 2 ⌝ }
+    ensures { λ r. ⌜ Reads block-fields raw r ⌝ }
+{
+    if raw.r > 8192 || raw.h0 > 8192 || raw.h1 > 8192 || raw.h2 > 8192 || raw.d != 0 {
+        return None;
+    }
+    let Some(centre) = read_centre(raw) else {
+        return None;
+    };
+    Some(Block {
+        centre,
+        half_x: raw.h0,
+        half_y: raw.h1,
+        half_z: raw.h2,
+        radius: raw.r,
+    })
+}
+
+fn read_drum(raw: RawSolid) -> Option<Drum>
+    requires { ⌜ raw .kind ≡ 4 ⌝ }
+    ensures { λ r. ⌜ Reads drum-fields raw r ⌝ }
+{
+    if raw.r > 8192 || raw.h0 > 8192 || raw.h2 != 0 || raw.d != 0 {
+        return None;
+    }
+    let axis = match raw.h1 {
+        0 => Axis::X,
+        1 => Axis::Y,
+        2 => Axis::Z,
+        _ => return None,
+    };
+    let Some(centre) = read_centre(raw) else {
+        return None;
+    };
+    Some(Drum {
+        centre,
+        radius: raw.r,
+        half_height: raw.h0,
+        axis,
+    })
+}
