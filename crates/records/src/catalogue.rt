@@ -2,7 +2,7 @@
 ghost use Prim.Native.Nat.{_+_, _*_, _-_, _<_, _≤_};
 ghost use mathlib.Core.Path.{_≡_};
 ghost use Rattle.space.specs.At.{at};
-ghost use Rattle.records.specs.Catalogue.{ball-fields, block-fields, drum-fields, centre-field};
+ghost use Rattle.records.specs.Catalogue.{ball-fields, block-fields, plane-fields, drum-fields, centre-field};
 ghost use Rattle.records.specs.Reads.{Reads};
 use crate::point::point;
 use crate::raw::RawSolid;
@@ -10,6 +10,7 @@ use solids::catalogue::Axis;
 use solids::catalogue::Ball;
 use solids::catalogue::Block;
 use solids::catalogue::Drum;
+use solids::catalogue::Plane;
 use space::point::Point;
 
 fn read_centre(raw: RawSolid) -> Option<Point>
@@ -50,6 +51,37 @@ fn read_block(raw: RawSolid) -> Option<Block>
         half_y: raw.h1,
         half_z: raw.h2,
         radius: raw.r,
+    })
+}
+
+fn read_plane(raw: RawSolid) -> Option<Plane>
+    requires { ⌜ raw .kind ≡ 3 ⌝ }
+    ensures { λ r. ⌜ Reads plane-fields raw r ⌝ }
+{
+    if raw.h0 != 0 || raw.h1 != 0 || raw.h2 != 0 {
+        return None;
+    }
+    let x = raw.x.unsigned_abs() as u32;
+    let y = raw.y.unsigned_abs() as u32;
+    let z = raw.z.unsigned_abs() as u32;
+    if x > 4096 || y > 4096 || z > 4096 {
+        return None;
+    }
+    let squared = x * x + y * y + z * z;
+    let length = raw.r as u32;
+    let shorter = length.saturating_sub(1);
+    if squared == 0 || squared > length * length || squared <= shorter * shorter {
+        return None;
+    }
+    if raw.d.unsigned_abs() > 16384 * length {
+        return None;
+    }
+    Some(Plane {
+        normal_x: raw.x,
+        normal_y: raw.y,
+        normal_z: raw.z,
+        offset: raw.d,
+        length: raw.r,
     })
 }
 
