@@ -2,16 +2,51 @@
 ghost use Prim.Native.Nat.{_+_, _*_, _-_, _<_, _≤_};
 ghost use mathlib.Core.Path.{_≡_};
 ghost use Rattle.space.specs.At.{at};
-ghost use Rattle.records.specs.Catalogue.{ball-fields, block-fields, plane-fields, drum-fields, centre-field};
+ghost use Rattle.records.specs.Catalogue.{ball-fields, block-fields, plane-fields, drum-fields, centre-field, raw-of, catalogue-record};
 ghost use Rattle.records.specs.Reads.{Reads};
 use crate::point::point;
 use crate::raw::RawSolid;
+use crate::raw::read_raw;
 use solids::catalogue::Axis;
 use solids::catalogue::Ball;
 use solids::catalogue::Block;
+use solids::catalogue::CatalogueSolid;
 use solids::catalogue::Drum;
 use solids::catalogue::Plane;
 use space::point::Point;
+
+pub(crate) fn read_catalogue(bytes: &[u8]) -> Option<CatalogueSolid>
+    ensures { λ r. ⌜ Reads catalogue-record (now (bytes .entry)) r ⌝ }
+{
+    match read_raw(bytes) {
+        Some(raw) => read_fields(raw),
+        None => None,
+    }
+}
+
+fn read_fields(raw: RawSolid) -> Option<CatalogueSolid>
+    ensures { λ r. ⌜ Reads raw-of raw r ⌝ }
+{
+    match raw.kind {
+        1 => match read_ball(raw) {
+            Some(s) => Some(CatalogueSolid::Ball(s)),
+            None => None,
+        },
+        2 => match read_block(raw) {
+            Some(s) => Some(CatalogueSolid::Block(s)),
+            None => None,
+        },
+        3 => match read_plane(raw) {
+            Some(s) => Some(CatalogueSolid::Plane(s)),
+            None => None,
+        },
+        4 => match read_drum(raw) {
+            Some(s) => Some(CatalogueSolid::Drum(s)),
+            None => None,
+        },
+        _ => None,
+    }
+}
 
 fn read_centre(raw: RawSolid) -> Option<Point>
     ensures { λ r. ⌜ Reads at (centre-field raw) r ⌝ }
