@@ -9,7 +9,6 @@ use lib.Signed.{leZ, _≤ℤ_, _<ℤ_}
 use Rattle.std.specs.Numbers.{maxZ}
 use Rattle.std.proofs.shelf.Signed.{ints, clamps}
 use Rattle.std.proofs.shelf.Tests.{cond-both}
-use Rattle.space.specs.At.{at}
 use Rattle.space.specs.Laws.{DistanceLaw}
 use Rattle.space.specs.Pt.{Pt, InRange, InSpace}
 use Rattle.space.specs.Root.{root}

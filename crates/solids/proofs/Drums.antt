@@ -1,7 +1,6 @@
 -- The laws of the distances across and along an axis. Assumes nothing.
 use Prim.Native.Nat.{ℕ, _+_, _*_, _≤_}
 use native.Mathlib.Omega.{arith}
-use mathlib.Core.Path.{_≡_}
 use lib.IntN.{ℤ, pos, _-ℤ_, natAbs}
 use Rattle.space.specs.Laws.{DistanceLaw}
 use Rattle.space.specs.Pt.{Pt, InSpace}

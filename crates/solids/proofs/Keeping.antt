@@ -1,5 +1,5 @@
 -- What keeps the two laws: a number taken off, the greater of two, a root. Assumes nothing.
-use Prim.Native.Nat.{ℕ, suc, _+_, _*_, _≤_, _<_}
+use Prim.Native.Nat.{ℕ, _+_, _*_, _≤_}
 use native.Mathlib.Omega.{arith}
 use mathlib.Core.Path.{_≡_, refl}
 use lib.IntN.{ℤ, pos, negsuc, _-ℤ_, natAbs}
@@ -9,9 +9,9 @@ use Rattle.std.proofs.shelf.Signed.{ints, clamps}
 use Rattle.space.specs.At.{at}
 use Rattle.space.specs.declared.point.Point.{Point}
 use Rattle.space.specs.Laws.{DistanceLaw, DistanceRange}
-use Rattle.space.specs.Pt.{Pt, InSpace, InRange, apart²}
+use Rattle.space.specs.Pt.{Pt, InSpace, apart²}
 use Rattle.space.specs.Root.{root}
-use Rattle.space.proofs.Minima.{root-below}
+use Rattle.space.proofs.RootOrder.{root-below}
 use Rattle.space.proofs.Roots.{square-le}
 use Rattle.space.proofs.Triangles.{squares, root-triangle}
 use Rattle.solids.proofs.Bounds.{differ}

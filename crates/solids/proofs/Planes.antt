@@ -1,19 +1,17 @@
 -- The laws of a plane's distance. Assumes nothing.
-use Prim.Native.Nat.{ℕ, suc, _+_, _*_, _/_, _%_, _≤_, _<_}
-use native.Mathlib.Nat.{mul-add, mul-comm, mul-le-mul, add-mul-div-left, add-mul-div-right, div-add-mod, mod-lt, lt-of-mul-lt-mul-left, le-div-iff-mul-le, div-mul-le-self, le-refl, zero-div}
+use Prim.Native.Nat.{ℕ, suc, _+_, _*_, _/_, _≤_, _<_}
+use native.Mathlib.Nat.{mul-add, mul-le-mul, add-mul-div-left, add-mul-div-right, div-add-mod, mod-lt, lt-of-mul-lt-mul-left, le-div-iff-mul-le, div-mul-le-self, le-refl, zero-div}
 use native.Mathlib.Omega.{arith}
-use mathlib.Core.Path.{_≡_, refl, sym, ap, _∙_}
+use mathlib.Core.Path.{_≡_, sym, ap, _∙_}
 use borrow.Author.Differences.{up, down, same-in, sum-is, neg-is, product-is}
 use lib.IntN.{ℤ, pos, negsuc, _+ℤ_, _-ℤ_, _*ℤ_, negℤ, natAbs}
 use Rattle.std.proofs.shelf.Signed.{ints}
 use Rattle.space.specs.Laws.{DistanceLaw, DistanceRange}
-use Rattle.space.specs.Pt.{Pt, InSpace, apart²}
 use Rattle.space.proofs.Roots.{square-le}
 use Rattle.space.proofs.Triangles.{squares, cauchy}
 use Rattle.solids.specs.Plane.{floor-div, along-normal, plane-distance}
 use Rattle.solids.specs.declared.catalogue.Plane.{Plane}
-use Rattle.solids.proofs.Bounds.{product-abs, reach}
-use Rattle.solids.proofs.Casts.{length-pos}
+use Rattle.solids.proofs.Bounds.{product-abs, reach, length-pos}
 
 -- ---- products
 

@@ -1,8 +1,8 @@
 -- The laws of the least root to some centres. Assumes nothing.
-use Prim.Native.Nat.{ℕ, _+_, _*_, _≤_, min}
+use Prim.Native.Nat.{ℕ, _≤_, min}
 use native.Mathlib.Omega.{arith}
 use mathlib.Core.List.{List, [], _∷_}
-use lib.IntN.{ℤ, pos, _-ℤ_, natAbs}
+use lib.IntN.{pos, _-ℤ_, natAbs}
 use Rattle.std.proofs.shelf.Signed.{ints}
 use Rattle.space.specs.At.{at}
 use Rattle.space.specs.Laws.{DistanceLaw}

@@ -1,5 +1,5 @@
 -- The triangle inequality, over whole numbers. Assumes nothing.
-use Prim.Native.Nat.{ℕ, zero, suc, _+_, _-_, _*_, _≤_, _<_}
+use Prim.Native.Nat.{ℕ, suc, _+_, _-_, _*_, _≤_, _<_}
 use native.Mathlib.Nat.{mul-add, add-mul, mul-suc, suc-mul, mul-comm, mul-mul-mul-comm, mul-le-mul, mul-le-mul-left, le-of-mul-le-mul-left}
 use native.Mathlib.Omega.{arith}
 use mathlib.Core.Logic.{⊎-elim}
@@ -7,7 +7,7 @@ use mathlib.Core.Path.{_≡_, subst}
 use Rattle.std.proofs.shelf.Tests.{cases-lt}
 use Rattle.space.specs.Root.{root}
 use Rattle.space.proofs.Roots.{root-is, square-le, square-lt-back}
-use Rattle.space.proofs.Minima.{root-below}
+use Rattle.space.proofs.RootOrder.{root-below}
 
 -- a sum of three squares
 abbrev pub squares : ℕ → ℕ → ℕ → ℕ

@@ -1,9 +1,6 @@
 use native.Mathlib.Omega.{arith}
-use Prim.Native.Nat.{ℕ, _≤_}
-use lib.IntN.{ℤ, natAbs}
-use mathlib.Core.Path.{_≡_, _∙_, ap}
-use Rattle.space.specs.Pt.{InRange}
-use Rattle.solids.specs.Block.{excess, box-distance}
+use mathlib.Core.Path.{_∙_}
+use Rattle.solids.specs.Block.{box-distance}
 use Rattle.solids.proofs.Casts.{excess-passed, excess-back, less, boxed}
 use Rattle.solids.proofs.catalogue.Block.distance.Needs as need
 

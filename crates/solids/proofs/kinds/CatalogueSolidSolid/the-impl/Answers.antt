@@ -1,5 +1,3 @@
-use native.Mathlib.Omega.{arith}
-use Prim.Native.Nat.{_≤_}
 use lib.IntN.{pos, _-ℤ_}
 use Rattle.space.specs.At.{at}
 use Rattle.space.specs.Pt.{apart²}

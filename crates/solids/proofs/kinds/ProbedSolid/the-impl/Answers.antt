@@ -1,5 +1,4 @@
 use native.Mathlib.Omega.{arith}
-use Prim.Native.Nat.{_≤_}
 use lib.IntN.{pos}
 use lib.ListN.{take}
 use Rattle.solids.specs.Probed.{least, roots, probed-distance}
