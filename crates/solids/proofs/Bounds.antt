@@ -1,15 +1,15 @@
--- Bounds that the distances' methods need. Assumes nothing.
-use Prim.Native.Nat.{ℕ, suc, _+_, _*_, _^_, _≤_, _<_}
+-- Bounds of the numbers that the distances are made of. Assumes nothing.
+use Prim.Native.Nat.{ℕ, zero, suc, _-_, _*_, _^_, _≤_, _<_}
 use native.Mathlib.Nat.{mul-le-mul}
 use native.Mathlib.Omega.{arith}
 use mathlib.Core.Path.{_≡_}
 use lib.IntN.{ℤ, pos, negsuc, _*ℤ_, _-ℤ_, natAbs}
-use mir.Syntax.{w16, w32}
-use mir.Val.{SFits, toZ, ofZ}
-use Rattle.std.proofs.shelf.Signed.{ints, toZ-ofZ}
+use Rattle.std.proofs.shelf.Signed.{ints}
 use Rattle.space.specs.Pt.{InRange}
 use Rattle.space.specs.Root.{root}
-use Rattle.space.proofs.Minima.{root-below}
+use Rattle.space.proofs.RootOrder.{root-below}
+use Rattle.space.proofs.Roots.{square-le, square-lt-back}
+use Rattle.solids.specs.declared.catalogue.Plane.{Plane}
 
 pub root-small : (n : ℕ) → n < 2 ^ 32 → root n ≤ 65535
 root-small n h = let lt = root-below n 65536 (omega arith) in omega arith
@@ -27,18 +27,22 @@ differ a b h k = omega (arith, ints)
 pub reach : (a : ℤ) → InRange a → natAbs a ≤ 8192
 reach a h = omega (arith, ints)
 
-within : (z : ℤ) → natAbs z ≤ 33554432 → SFits w32 z
-within z h = omega (arith, ints)
-
 pub product-small : (n a : ℤ) → natAbs n ≤ 4096 → natAbs a ≤ 8192 → natAbs (n *ℤ a) ≤ 33554432
 product-small n a h k = rw (product-abs n a) (mul-le-mul h k)
 
--- a 16-bit number read at 32 bits
-pub widened : (z : ℤ) → SFits w16 z → toZ w32 (ofZ w32 (toZ w16 (ofZ w16 z))) ≡ z
-widened z f = omega (arith, ints)
+-- a plane's length
+module _ (s : Plane) where
+  pub length-pos : 0 < s .length
+  length-pos = elim-zero (s .length) (s .«not_zero») (s .«long_enough»)
+    where
+      elim-zero : {n : ℕ} (m : ℕ) → 0 < n → n ≤ m * m → 0 < m
+      elim-zero zero h k = omega arith
+      elim-zero (suc m) h k = omega arith
 
-pub widened-product : (n a : ℤ) → SFits w16 n → SFits w16 a → natAbs n ≤ 4096 → natAbs a ≤ 8192 → toZ w32 (ofZ w32 (toZ w32 (ofZ w32 (toZ w16 (ofZ w16 n))) *ℤ toZ w32 (ofZ w32 (toZ w16 (ofZ w16 a))))) ≡ n *ℤ a
-widened-product n a f g h k =
-    let small = product-small n a h k in
-    let fits : SFits w32 (n *ℤ a) = within (n *ℤ a) small in
-    rw (widened n f, widened a g) (toZ-ofZ w32 (n *ℤ a) fits)
+  pub length-short : s .length < 65536
+  length-short =
+      let x = square-le (s .«normal_x_in») in
+      let y = square-le (s .«normal_y_in») in
+      let z = square-le (s .«normal_z_in») in
+      let k = square-lt-back (s .length - 1) 65535 (omega (arith, s .least)) in
+      omega arith

@@ -1,8 +1,7 @@
 -- What the methods compute over bits, read as whole numbers. Assumes nothing.
-use Prim.Native.Nat.{ℕ, zero, suc, _+_, _-_, _*_, _^_, _≤_, _<_}
-use native.Mathlib.Nat.{mul-le-mul}
+use Prim.Native.Nat.{ℕ, _+_, _*_, _≤_, _<_}
 use native.Mathlib.Omega.{arith}
-use mathlib.Core.Bool.{Bool, true, false, cond}
+use mathlib.Core.Bool.{true, false}
 use mathlib.Core.Path.{_≡_, refl, sym, ap, ap₂, _∙_}
 use lib.IntN.{ℤ, pos, negsuc, _+ℤ_, _-ℤ_, _*ℤ_, natAbs}
 use lib.Signed.{leZ}
@@ -14,9 +13,8 @@ use Rattle.std.specs.Numbers.{maxZ, divEuclid}
 use Rattle.space.specs.Pt.{InRange}
 use Rattle.space.specs.Root.{root}
 use Rattle.solids.specs.Block.{excess, greatest, box-distance, positive-square}
-use Rattle.space.proofs.Roots.{square-lt-back}
 use Rattle.solids.specs.Plane.{floor-div}
-use Rattle.solids.specs.declared.catalogue.Plane.{Plane}
+use Rattle.solids.proofs.Bounds.{product-small}
 
 -- a number that went to its bits and back
 abbrev read-16 : ℤ → ℤ
@@ -67,6 +65,17 @@ module _ (a b e : ℤ) (h : ℕ) (i : InRange a) (j : InRange b) (l : h ≤ 8192
 pub boxed : {x y z a b c : ℤ} → x ≡ a → y ≡ b → z ≡ c → box-distance x y z ≡ box-distance a b c
 boxed p q r = λ i. box-distance (p i) (q i) (r i)
 
+-- a product of 16-bit numbers, at 32 bits
+wide : (z : ℤ) → SFits w16 z → read-32 (read-16 z) ≡ z
+wide z f = omega (arith, ints)
+
+pub wide-product : (n a : ℤ) → SFits w16 n → SFits w16 a → natAbs n ≤ 4096 → natAbs a ≤ 8192 → read-32 (read-32 (read-16 n) *ℤ read-32 (read-16 a)) ≡ n *ℤ a
+wide-product n a f g h k = rw (wide n f, wide a g) (toZ-ofZ w32 (n *ℤ a) (fits (n *ℤ a) (product-small n a h k)))
+  where
+    fits : (z : ℤ) → natAbs z ≤ 33554432 → SFits w32 z
+    fits z l = omega (arith, ints)
+
+-- a plane's three products, as they are passed and added
 pub product-read : (n a r : ℤ) → natAbs n ≤ 4096 → InRange a → r ≡ read-16 n *ℤ read-16 a → r ≡ n *ℤ a
 product-read n a r h i q = q ∙ ap₂ _*ℤ_ (normal n h) (coordinate a i)
 
@@ -83,23 +92,7 @@ module _ (a b c : ℤ) (h : natAbs a ≤ 33554432) (i : natAbs b ≤ 33554432) (
   pub sum-small : natAbs (read-32 (read-32 (read-32 a +ℤ read-32 b) +ℤ read-32 c)) ≤ 100663296
   sum-small = omega (arith, ints)
 
--- a plane's length
-module _ (s : Plane) where
-  pub length-pos : 0 < s .length
-  length-pos = elim-zero (s .length) (s .«not_zero») (s .«long_enough»)
-    where
-      elim-zero : {n : ℕ} (m : ℕ) → 0 < n → n ≤ m * m → 0 < m
-      elim-zero zero h k = omega arith
-      elim-zero (suc m) h k = omega arith
-
-  pub length-short : s .length < 65536
-  length-short =
-      let x = mul-le-mul (s .«normal_x_in») (s .«normal_x_in») in
-      let y = mul-le-mul (s .«normal_y_in») (s .«normal_y_in») in
-      let z = mul-le-mul (s .«normal_z_in») (s .«normal_z_in») in
-      let k = square-lt-back (s .length - 1) 65535 (omega (arith, s .least)) in
-      omega arith
-
+-- the divisor and the quotient of a plane
 pub divisor : (m z : ℕ) → 0 < m → m < 65536 → record { nonzero : 0 < ofZ w32 (toZ w32 m); fits : ofZ w32 (toZ w32 m) ≡ 4294967295 → z ≡ 2147483648 → ⊥ }
 divisor m z h k = let e : ofZ w32 (toZ w32 m) ≡ m = ofZ-toZ w32 m (omega arith) in record { nonzero = rw e h; fits = λ p _. omega arith }
 

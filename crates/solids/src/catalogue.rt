@@ -1,9 +1,9 @@
 // The kinds of solid that a scene file can hold. Each type has its rule in ghost fields, so no
 // record that breaks the rule can be made. This file holds the types alone, so that the specs can
 // name them.
-ghost use Prim.Native.Nat.{_+_, _-_, _*_, _≤_, _<_};
+ghost use Prim.Native.Nat.{_-_, _*_, _≤_, _<_};
 ghost use lib.IntN.{natAbs};
-ghost use Rattle.space.specs.Pt.{square};
+ghost use Rattle.solids.specs.Normal.{normal²};
 use space::point::Point;
 
 // All that is at most `radius` from the centre.
@@ -40,9 +40,9 @@ pub struct Plane {
     ghost normal_x_in: { natAbs «normal_x» ≤ 4096 },
     ghost normal_y_in: { natAbs «normal_y» ≤ 4096 },
     ghost normal_z_in: { natAbs «normal_z» ≤ 4096 },
-    ghost not_zero: { 0 < square «normal_x» + square «normal_y» + square «normal_z» },
-    ghost long_enough: { square «normal_x» + square «normal_y» + square «normal_z» ≤ length * length },
-    ghost least: { (length - 1) * (length - 1) < square «normal_x» + square «normal_y» + square «normal_z» },
+    ghost not_zero: { 0 < normal² «normal_x» «normal_y» «normal_z» },
+    ghost long_enough: { normal² «normal_x» «normal_y» «normal_z» ≤ length * length },
+    ghost least: { (length - 1) * (length - 1) < normal² «normal_x» «normal_y» «normal_z» },
     ghost offset_in: { natAbs offset ≤ 16384 * length },
 }
 

@@ -1,6 +1,6 @@
 // The distance of each kind of solid.
 ghost use mathlib.Core.Path.{_≡_};
-ghost use Prim.Native.Nat.{_*_, _≤_, min};
+ghost use Prim.Native.Nat.{_*_, _≤_};
 ghost use lib.IntN.{pos, _*ℤ_, natAbs};
 ghost use lib.Signed.{_≤ℤ_};
 ghost use Rattle.space.specs.At.{at};
@@ -10,7 +10,7 @@ ghost use Rattle.solids.specs.Ball.{ball-distance};
 ghost use Rattle.solids.specs.Block.{block-distance, box-distance, excess, positive-square};
 ghost use Rattle.solids.specs.Drum.{drum-distance, along, across²};
 ghost use Rattle.solids.specs.Plane.{plane-distance, along-normal};
-ghost use Rattle.solids.specs.Probed.{probed-distance, least, roots};
+ghost use Rattle.solids.specs.Probed.{probed-distance};
 use crate::catalogue::Axis;
 use crate::catalogue::Ball;
 use crate::catalogue::Block;

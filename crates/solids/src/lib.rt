@@ -1,5 +1,6 @@
 // Solids: what one means, and the kinds in use.
 pub mod catalogue;
-pub mod distances;
+mod distances;
+pub mod kinds;
 pub mod probed;
 pub mod solid;

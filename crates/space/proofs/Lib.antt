@@ -1,3 +1,4 @@
-pub mod Minima
 pub mod Ranges
+pub mod RootOrder
 pub mod Roots
+pub mod Triangles

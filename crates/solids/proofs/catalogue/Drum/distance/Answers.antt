@@ -1,5 +1,4 @@
 use native.Mathlib.Omega.{arith}
-use Prim.Native.Nat.{_≤_}
 use mathlib.Core.Path.{_∙_, ap, ap₂}
 use lib.IntN.{pos, _-ℤ_}
 use mir.Syntax.{w32}

@@ -36,8 +36,8 @@ returns c =
     let j = c .product-3 .ensures .bound in
     record {
       value = sum-read a b d h i j (s .«normal_x» *ℤ p .x) (s .«normal_y» *ℤ p .y) (s .«normal_z» *ℤ p .z)
-        (product-read (s .«normal_x») (p .x) a (s .«normal_x_in») (p .«x_in») (c .product .ensures .value))
-        (product-read (s .«normal_y») (p .y) b (s .«normal_y_in») (p .«y_in») (c .product-2 .ensures .value))
-        (product-read (s .«normal_z») (p .z) d (s .«normal_z_in») (p .«z_in») (c .product-3 .ensures .value));
-      bound = sum-small a b d h i j
+          (product-read (s .«normal_x») (p .x) a (s .«normal_x_in») (p .«x_in») (c .product .ensures .value))
+          (product-read (s .«normal_y») (p .y) b (s .«normal_y_in») (p .«y_in») (c .product-2 .ensures .value))
+          (product-read (s .«normal_z») (p .z) d (s .«normal_z_in») (p .«z_in») (c .product-3 .ensures .value));
+      bound = sum-small a b d h i j;
     }

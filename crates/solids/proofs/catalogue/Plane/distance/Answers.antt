@@ -1,14 +1,11 @@
-use native.Mathlib.Omega.{arith}
-use native.Mathlib.Nat.{mul-le-mul}
-use Prim.Native.Nat.{_*_, _<_, _≤_}
-use borrow.Author.Needs.{needs}
 use mathlib.Core.Path.{_∙_}
 use mir.Syntax.{w32}
 use mir.Val.{SFits}
-use Rattle.std.proofs.shelf.Signed.{ints, toZ-ofZ}
+use Rattle.std.proofs.shelf.Signed.{toZ-ofZ}
 use Rattle.space.specs.At.{at}
 use Rattle.solids.specs.Plane.{along-normal, plane-distance}
-use Rattle.solids.proofs.Casts.{length-pos, length-short, numerator-fits, divided, divisor}
+use Rattle.solids.proofs.Bounds.{length-pos, length-short}
+use Rattle.solids.proofs.Casts.{numerator-fits, divided, divisor}
 use Rattle.solids.proofs.catalogue.Plane.distance.Needs as need
 
 pub sub-along-normal : need.sub-along-normal

@@ -1,14 +1,14 @@
 use native.Mathlib.Omega.{arith}
 use borrow.Author.Needs.{needs}
-use Prim.Native.Nat.{ℕ, _+_, _<_, _≤_, min}
+use Prim.Native.Nat.{ℕ, _<_, min}
 use mathlib.Core.Path.{_≡_, _∙_, ap, ap₂, sym}
 use lib.IntN.{pos}
-use lib.ListN.{length, getD, take}
+use lib.ListN.{length, take}
 use Rattle.space.specs.At.{at}
 use Rattle.space.specs.Pt.{apart²}
 use Rattle.space.specs.Root.{root}
 use Rattle.space.specs.declared.point.Point.{Point}
-use Rattle.space.proofs.Minima.{root-min}
+use Rattle.space.proofs.RootOrder.{root-min}
 use Rattle.solids.specs.Probed.{least, roots, probed-distance}
 use Rattle.solids.proofs.Casts.{less, less-fits}
 use Rattle.solids.proofs.Least.{least-first, least-next}

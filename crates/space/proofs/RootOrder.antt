@@ -1,8 +1,8 @@
 -- Roots keep the order of their squares. Assumes nothing.
-use Prim.Native.Nat.{ℕ, suc, _+_, _*_, _≤_, _<_, min}
+use Prim.Native.Nat.{ℕ, suc, _*_, _≤_, _<_, min}
 use native.Mathlib.Omega.{arith}
 use mathlib.Core.Logic.{⊎-elim}
-use mathlib.Core.Path.{_≡_, ap, sym, _∙_}
+use mathlib.Core.Path.{_≡_, ap, _∙_}
 use Rattle.std.proofs.shelf.Tests.{cases-lt}
 use Rattle.space.specs.Root.{root}
 use Rattle.space.proofs.Roots.{root-is, square-lt-back}
