@@ -6,12 +6,8 @@ use mathlib.Core.Path.{_≡_, refl, ap, _∙_}
 use lib.ListN.{length, getD}
 use mir.Syntax.{w8}
 use mir.Val.{Fits}
-use Rattle.records.specs.LittleEndian.{u16-le, u32-le}
-
--- n elements of a list, from place i on
-abbrev pub elements : ℕ → ℕ → List ℕ → List ℕ
-elements i zero xs = []
-elements i (suc n) xs = getD xs i 0 ∷ elements (suc i) n xs
+use Rattle.records.specs.Elements.{elements}
+use Rattle.records.specs.LittleEndian.{u16-le}
 
 elements-tail : (i n x : ℕ) (xs : List ℕ) → elements (suc i) n (x ∷ xs) ≡ elements i n xs
 elements-tail i zero x xs = refl

@@ -1,4 +1,5 @@
 pub mod Catalogue
+pub mod Elements
 pub mod Joint
 pub mod LittleEndian
 pub mod Node
