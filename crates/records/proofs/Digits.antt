@@ -2,10 +2,12 @@
 use Prim.Native.Nat.{ℕ, zero, suc, _+_, _*_, _/_, _%_, _<_, _^_}
 use native.Mathlib.Omega.{arith}
 use mathlib.Core.List.{List, [], _∷_, _++_}
-use mathlib.Core.Path.{_≡_, refl, ap, _∙_}
+use mathlib.Core.Path.{_≡_, refl, ap, sym, _∙_}
+use lib.IntN.{ℤ}
 use lib.ListN.{length, getD}
-use mir.Syntax.{w8}
-use mir.Val.{Fits}
+use mir.Syntax.{Width, w8}
+use mir.Val.{Fits, SFits, ofZ, toZ}
+use Rattle.std.proofs.shelf.Signed.{toZ-ofZ}
 use Rattle.records.specs.Elements.{elements}
 use Rattle.records.specs.LittleEndian.{u16-le}
 
@@ -34,3 +36,12 @@ two-u16 xs typed l =
     let a = u16-le-is (getD xs 0 0) (getD xs 1 0) (omega (arith, typed 0)) in
     let b = u16-le-is (getD xs 2 0) (getD xs 3 0) (omega (arith, typed 2)) in
     cc
+
+pub signed-same : (w : Width) (a b : ℤ) → SFits w a → SFits w b → ofZ w a ≡ ofZ w b → a ≡ b
+signed-same w a b f g e = sym (toZ-ofZ w a f) ∙ ap (toZ w) e ∙ toZ-ofZ w b g
+
+pub two-digits : (m n : ℕ) → m % 256 ≡ n % 256 → m / 256 ≡ n / 256 → m ≡ n
+two-digits m n p q = omega arith
+
+pub four-digits : (m n : ℕ) → m % 256 ≡ n % 256 → m / 256 % 256 ≡ n / 256 % 256 → m / 65536 % 256 ≡ n / 65536 % 256 → m / 16777216 ≡ n / 16777216 → m ≡ n
+four-digits m n p q r s = omega arith

@@ -1,20 +1,20 @@
 -- A record has the fields of one catalogue solid only. Assumes nothing.
-use Prim.Native.Nat.{ℕ, _/_, _%_, _<_, _≤_, _*_, _+_}
+use Prim.Native.Nat.{ℕ, _*_, _≤_}
 use native.Mathlib.Omega.{arith}
-use mathlib.Core.List.{List}
-use mathlib.Core.Path.{_≡_, ap, sym, _∙_}
+use mathlib.Core.Path.{_≡_, ap}
 use lib.IntN.{ℤ, pos, natAbs}
 use lib.ListN.{getD}
-use mir.Syntax.{Width, w16, w32}
-use mir.Val.{SFits, ofZ, toZ}
-use Rattle.std.proofs.shelf.Signed.{toZ-ofZ, ints}
-use Rattle.space.specs.Pt.{InRange}
+use mir.Syntax.{w16, w32}
+use mir.Val.{SFits, ofZ}
+use Rattle.std.proofs.shelf.Signed.{ints}
 use Rattle.space.specs.declared.point.Point.{Point}
 use Rattle.solids.specs.declared.catalogue.CatalogueSolid.{CatalogueSolid}
 use Rattle.solids.specs.declared.catalogue.CatalogueSolid.the-variants.{Ball, Block, Plane, Drum}
 use Rattle.records.specs.Catalogue.{raw-of}
 use Rattle.records.specs.Raw.{raw-record}
 use Rattle.records.specs.declared.raw.RawSolid.{RawSolid}
+use Rattle.records.proofs.Digits.{signed-same, two-digits, four-digits}
+use Rattle.records.proofs.Points.{point-fits}
 use Rattle.records.proofs.Squares.{length-le}
 
 -- the signed fields fit their types
@@ -23,15 +23,6 @@ pub record Fit (s : RawSolid) : Type 0 where
   pub y : SFits w16 (s .y)
   pub z : SFits w16 (s .z)
   pub d : SFits w32 (s .d)
-
-signed-same : (w : Width) (a b : ℤ) → SFits w a → SFits w b → ofZ w a ≡ ofZ w b → a ≡ b
-signed-same w a b f g e = sym (toZ-ofZ w a f) ∙ ap (toZ w) e ∙ toZ-ofZ w b g
-
-two-digits : (m n : ℕ) → m % 256 ≡ n % 256 → m / 256 ≡ n / 256 → m ≡ n
-two-digits m n p q = omega arith
-
-four-digits : (m n : ℕ) → m % 256 ≡ n % 256 → m / 256 % 256 ≡ n / 256 % 256 → m / 65536 % 256 ≡ n / 65536 % 256 → m / 16777216 ≡ n / 16777216 → m ≡ n
-four-digits m n p q r s = omega arith
 
 module _ (a b : RawSolid) (fa : Fit a) (fb : Fit b) (e : raw-record a ≡ raw-record b) where
   at : (i : ℕ) → getD (raw-record a) i 0 ≡ getD (raw-record b) i 0
@@ -50,9 +41,6 @@ module _ (a b : RawSolid) (fa : Fit a) (fb : Fit b) (e : raw-record a ≡ raw-re
     d = signed-same w32 (a .d) (b .d) (fa .d) (fb .d) (four-digits (ofZ w32 (a .d)) (ofZ w32 (b .d)) (at 16) (at 17) (at 18) (at 19)) i;
   }
 
-in-range-fits : (a : ℤ) → InRange a → SFits w16 a
-in-range-fits a h = omega (arith, ints)
-
 normal-fits : (a : ℤ) → natAbs a ≤ 4096 → SFits w16 a
 normal-fits a h = omega (arith, ints)
 
@@ -61,9 +49,9 @@ offset-fits a n h k = omega (arith, ints)
 
 centred : (c : Point) (kind r h0 h1 h2 : ℕ) → Fit (record { kind = kind; r = r; x = c .x; y = c .y; z = c .z; h0 = h0; h1 = h1; h2 = h2; d = pos 0 })
 centred c kind r h0 h1 h2 = record {
-  x = in-range-fits _ (c .«x_in»);
-  y = in-range-fits _ (c .«y_in»);
-  z = in-range-fits _ (c .«z_in»);
+  x = point-fits c .x;
+  y = point-fits c .y;
+  z = point-fits c .z;
   d = omega (arith, ints);
 }
 
