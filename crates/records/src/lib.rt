@@ -5,4 +5,5 @@ pub mod joint;
 pub mod make;
 pub mod node;
 mod point;
+mod probed;
 mod raw;
