@@ -1,7 +1,7 @@
 // The records of a scene file.
 mod bytes;
-pub mod catalogue;
-pub mod joint;
+mod catalogue;
+mod joint;
 pub mod make;
 pub mod node;
 mod point;
