@@ -1,0 +1,9 @@
+pub mod Catalogue
+pub mod Elements
+pub mod Joint
+pub mod LittleEndian
+pub mod Node
+pub mod Point
+pub mod Probed
+pub mod Raw
+pub mod Reads

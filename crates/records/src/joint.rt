@@ -1,0 +1,39 @@
+// Records of joints.
+ghost use Rattle.records.specs.Joint.{house-record, soft-record};
+ghost use Rattle.records.specs.Reads.{Reads};
+use joints::house::HouseJoint;
+use joints::radius::Radius;
+use joints::soft::SoftJoint;
+
+pub(crate) fn read_house(bytes: &[u8]) -> Option<HouseJoint>
+    ensures { λ r. ⌜ Reads house-record (now (bytes .entry)) r ⌝ }
+{
+    let [form_low, form_high, k_low, k_high, rest @ ..] = bytes else {
+        return None;
+    };
+    if !rest.is_empty() {
+        return None;
+    }
+    let k = u16::from_le_bytes([*k_low, *k_high]);
+    match u16::from_le_bytes([*form_low, *form_high]) {
+        0 if k == 0 => Some(HouseJoint::Sharp),
+        1 if 1 <= k && k <= 2048 => Some(HouseJoint::Rounded(Radius { k })),
+        _ => None,
+    }
+}
+
+pub(crate) fn read_soft(bytes: &[u8]) -> Option<SoftJoint>
+    ensures { λ r. ⌜ Reads soft-record (now (bytes .entry)) r ⌝ }
+{
+    let [form_low, form_high, k_low, k_high, rest @ ..] = bytes else {
+        return None;
+    };
+    if !rest.is_empty() {
+        return None;
+    }
+    let k = u16::from_le_bytes([*k_low, *k_high]);
+    match u16::from_le_bytes([*form_low, *form_high]) {
+        2 if 1 <= k && k <= 2048 => Some(SoftJoint(Radius { k })),
+        _ => None,
+    }
+}
