@@ -8,11 +8,16 @@ use mathlib.Core.Path.{_≡_, refl, sym, ap, _∙_}
 use lib.ListN.{length, take, drop, set}
 use Rattle.std.proofs.shelf.Counted.{map-counting-more}
 use Rattle.std.proofs.shelf.Lists.{take-more-set, map-append}
+use Rattle.std.proofs.shelf.Tests.{and-parts, and-from}
 use Rattle.std.specs.Options.{isSome}
 use Rattle.std.specs.declared.option.Option.{Option}
 use Rattle.std.specs.declared.option.Option.the-variants.{Some, None}
-use Rattle.scenefile.specs.Reads.{Reads}
+use Rattle.records.specs.Reads.{Reads}
+use Rattle.scene.specs.Lists.{named, all-named}
 use Rattle.scenefile.specs.Rows.{row, rows, Nobodys}
+use Rattle.tree.specs.Rows.{node-symbol}
+use Rattle.tree.specs.Spell.{Symbol}
+use Rattle.tree.specs.declared.node.Node.{Node}
 
 -- what is read is somebody's
 pub somebodys : {X : Type 0} (written : X → List ℕ) (bytes : List ℕ) (o : Option X) → Reads written bytes o → isSome o ≡ true → Nobodys written bytes → ⊥
@@ -34,3 +39,16 @@ rows-more written table bytes start size i x within is so-far =
     ∙ ap (λ front. front ++ (written x ∷ [])) so-far
     ∙ ap (λ r. rows bytes start size i ++ (r ∷ [])) is
     ∙ sym (map-counting-more (row bytes start size) 0 i i (omega arith))
+
+-- one node more that names a solid or a joint of the tables
+all-named-push : (solids joints : ℕ) (l : List Symbol) (s : Symbol) → all-named solids joints l ≡ true → named solids joints s ≡ true → all-named solids joints (l ++ (s ∷ [])) ≡ true
+all-named-push solids joints [] s all it = rw it
+all-named-push solids joints (x ∷ l) s all it =
+    let parts = and-parts (named solids joints x) (all-named solids joints l) all in
+    and-from (named solids joints x) (all-named solids joints (l ++ (s ∷ []))) (parts .0) (all-named-push solids joints l s (parts .1) it)
+
+pub named-more : (solids joints : ℕ) (table : List Node) (i : ℕ) (x : Node) → i < length table → named solids joints (node-symbol x) ≡ true → all-named solids joints (map node-symbol (take i table)) ≡ true → all-named solids joints (map node-symbol (take (i + 1) (set table i x))) ≡ true
+named-more solids joints table i x within it so-far =
+    ap (λ l. all-named solids joints (map node-symbol l)) (take-more-set table i x within)
+    ∙ ap (all-named solids joints) (map-append node-symbol (take i table) (x ∷ []))
+    ∙ all-named-push solids joints (map node-symbol (take i table)) (node-symbol x) so-far it

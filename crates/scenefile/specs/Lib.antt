@@ -1,5 +1,4 @@
 pub mod Checks
 pub mod Counted
 pub mod Header
-pub mod Reads
 pub mod Rows

@@ -1,6 +1,6 @@
 // Scene files: one reader for every make.
 pub mod counts;
 mod header;
+mod nodes;
 mod order;
-pub mod record;
 mod rows;

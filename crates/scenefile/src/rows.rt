@@ -3,10 +3,10 @@ ghost use Prim.Native.Nat.{ℕ, _+_, _*_, _≤_, _<_, _^_};
 ghost use mathlib.Core.List.{map};
 ghost use mathlib.Core.Path.{_≡_};
 ghost use lib.ListN.{length, take, drop};
-ghost use Rattle.scenefile.specs.Reads.{Reads};
+ghost use Rattle.records.specs.Reads.{Reads};
 ghost use Rattle.scenefile.specs.Rows.{row, rows, First, Nobodys};
 ghost use Rattle.std.specs.Options.{Cases};
-use crate::record::Record;
+use records::record::Record;
 
 // Record i of n.
 pub(crate) fn read_row<R: Record>(bytes: &[u8], start: usize, n: usize, i: usize) -> Option<R>
