@@ -4,3 +4,4 @@ mod header;
 mod nodes;
 mod order;
 mod rows;
+mod whole;
