@@ -38,17 +38,20 @@ joint-rows size bytes = rows bytes (joints-start size bytes) 4 (count Joints byt
 abbrev pub node-rows : ℕ → List ℕ → List (List ℕ)
 node-rows size bytes = rows bytes (nodes-start size bytes) 4 (count Nodes bytes)
 
-module _ {S J : Type 0} (make size : ℕ) (solid-record : S → List ℕ) (joint-record : J → List ℕ) (bytes : List ℕ) (rooms : Rooms) where
-  abbrev pub header-check : Refusal → Type 0
-  header-check e = header-fault make size bytes rooms ≡ Some e
-
+module _ {X : Type 0} (size : ℕ) (written : X → List ℕ) (bytes : List ℕ) where
   -- the first record of a table that nobody has
   abbrev pub solids-check : Refusal → Type 0
-  solids-check e = (n : ℕ) × (e ≡ refusal.Solid n) × First (λ i. Nobodys solid-record (row bytes solids-start size i)) (count Solids bytes) n
+  solids-check e = (n : ℕ) × (e ≡ refusal.Solid n) × First (λ i. Nobodys written (row bytes solids-start size i)) (count Solids bytes) n
 
   abbrev pub joints-check : Refusal → Type 0
-  joints-check e = (n : ℕ) × (e ≡ refusal.Joint n) × First (λ i. Nobodys joint-record (row bytes (joints-start size bytes) 4 i)) (count Joints bytes) n
+  joints-check e = (n : ℕ) × (e ≡ refusal.Joint n) × First (λ i. Nobodys written (row bytes (joints-start size bytes) 4 i)) (count Joints bytes) n
 
+-- every solid record and every joint record is somebody's
+pub record Rows-fine {S J : Type 0} (size : ℕ) (solid-record : S → List ℕ) (joint-record : J → List ℕ) (bytes : List ℕ) : Type 0 where
+  pub solids-good : (k : ℕ) → k < count Solids bytes → Nobodys solid-record (row bytes solids-start size k) → ⊥
+  pub joints-good : (k : ℕ) → k < count Joints bytes → Nobodys joint-record (row bytes (joints-start size bytes) 4 k) → ⊥
+
+module _ (size : ℕ) (bytes : List ℕ) where
   abbrev pub nodes-check : Refusal → Type 0
   nodes-check e = (n : ℕ) × (e ≡ refusal.Node n) × First (λ i. No-node (count Solids bytes) (count Joints bytes) (row bytes (nodes-start size bytes) 4 i)) (count Nodes bytes) n
 
@@ -60,16 +63,30 @@ module _ {S J : Type 0} (make size : ℕ) (solid-record : S → List ℕ) (joint
   abbrev pub unused-check : Refusal → Type 0
   unused-check e = (nodes : List Node) × (map node-record nodes ≡ node-rows size bytes) × ((n : ℕ) × (e ≡ refusal.Unused n) × (n < count Solids bytes) × (names n (map node-symbol nodes) ≡ false))
 
-  -- the checks run in rising number, and the first that refuses counts
-  abbrev pub Refused : Refusal → Type 0
-  Refused = header-check then solids-check then joints-check then nodes-check then order-check then unused-check
-
-  -- no check refuses: the rows are those of these tables, which are an accepted scene
-  pub record Accepted (solids : List S) (joints : List J) (nodes : List Node) : Type 0 where
-    pub header : header-fault make size bytes rooms ≡ None
-    pub solids-are : map solid-record solids ≡ solid-rows size bytes
-    pub joints-are : map joint-record joints ≡ joint-rows size bytes
+  -- the file's nodes are these, and they are a tree in post-order that names every solid
+  pub record Tree-fine (nodes : List Node) : Type 0 where
     pub nodes-are : map node-record nodes ≡ node-rows size bytes
     pub all-in : all-named (count Solids bytes) (count Joints bytes) (map node-symbol nodes) ≡ true
     pub ordered : in-order (map node-symbol nodes) ≡ true
     pub used : all-used (count Solids bytes) (map node-symbol nodes) ≡ true
+
+module _ {S J : Type 0} (make size : ℕ) (solid-record : S → List ℕ) (joint-record : J → List ℕ) (bytes : List ℕ) (rooms : Rooms) where
+  abbrev pub header-check : Refusal → Type 0
+  header-check e = header-fault make size bytes rooms ≡ Some e
+
+  -- the checks run in rising number, and the first that refuses counts
+  abbrev pub Refused : Refusal → Type 0
+  Refused =
+      header-check
+      then solids-check size solid-record bytes
+      then joints-check size joint-record bytes
+      then nodes-check size bytes
+      then order-check size bytes
+      then unused-check size bytes
+
+  -- no check refuses: the file's rows are those of these tables
+  pub record Accepted (solids : List S) (joints : List J) (nodes : List Node) : Type 0 where
+    pub header : header-fault make size bytes rooms ≡ None
+    pub solids-are : map solid-record solids ≡ solid-rows size bytes
+    pub joints-are : map joint-record joints ≡ joint-rows size bytes
+    pub tree : Tree-fine size bytes nodes

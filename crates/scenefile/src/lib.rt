@@ -1,4 +1,5 @@
 // Scene files: one reader for every make.
+mod check;
 pub mod counts;
 mod header;
 mod nodes;

@@ -47,7 +47,7 @@ fn read_within(bytes: &[u8], start: usize, n: usize, i: usize, solids: usize, jo
 pub(crate) fn read_nodes(bytes: &[u8], start: usize, n: usize, solids: usize, joints: usize, table: &mut [Node]) -> Option<usize>
     requires inside { ⌜ start + 4 * n ≤ length (now bytes) ⌝ }
     requires room { ⌜ n ≤ length (now table) ⌝ }
-    ensures { λ r. ⌜ Cases r ((map node-record (take n (now (table .exit))) ≡ rows (now (bytes .entry)) start 4 n) × (all-named solids joints (map node-symbol (take n (now (table .exit)))) ≡ true)) (λ i. First (λ k. No-node solids joints (row (now (bytes .entry)) start 4 k)) n i) ⌝ }
+    ensures { λ r. ⌜ Cases r ((map node-record (take n (now (table .exit))) ≡ rows (now (bytes .entry)) start 4 n) × (all-named solids joints (map node-symbol (take n (now (table .exit)))) ≡ true) × ((k : ℕ) → k < n → No-node solids joints (row (now (bytes .entry)) start 4 k) → ⊥)) (λ i. First (λ k. No-node solids joints (row (now (bytes .entry)) start 4 k)) n i) ⌝ }
 {
     for i in 0..n {
         match read_within(bytes, start, n, i, solids, joints) {

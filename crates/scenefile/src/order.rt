@@ -1,8 +1,9 @@
 // Whether a node table is a tree in post-order, and names every solid.
-ghost use Prim.Native.Nat.{_<_};
+ghost use Prim.Native.Nat.{_<_, _≤_};
 ghost use mathlib.Core.Bool.{true, false};
 ghost use mathlib.Core.List.{map};
 ghost use mathlib.Core.Path.{_≡_};
+ghost use lib.ListN.{length};
 ghost use Rattle.scene.specs.Used.{names, names-it, all-used};
 ghost use Rattle.std.specs.Options.{Cases};
 ghost use Rattle.tree.specs.Order.{order-fault};
@@ -14,7 +15,8 @@ use tree::node::NodeKind;
 // The place of the first node with fewer than two operands or with more than 64 values waiting; the
 // node count where not one value waits at the end.
 pub(crate) fn find_order_fault(nodes: &[Node]) -> Option<usize>
-    ensures { λ r. ⌜ r ≡ order-fault 0 0 (map node-symbol (now (nodes .entry))) ⌝ }
+    ensures value { λ r. ⌜ r ≡ order-fault 0 0 (map node-symbol (now (nodes .entry))) ⌝ }
+    ensures bound { λ r. ⌜ Cases r (Unit {0}) (λ i. i ≤ length (now (nodes .entry))) ⌝ }
 {
     let mut waiting = 0usize;
     for (i, node) in nodes.iter().enumerate() {

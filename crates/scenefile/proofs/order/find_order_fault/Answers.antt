@@ -27,15 +27,23 @@ pub returns-then-waiting-ge64 : need.returns-then-waiting-ge64
 returns-then-waiting-ge64 c =
     let xs = c .args .nodes .now in
     let i = c .loop-i .i in
-    solid-over (map node-symbol xs) i (row xs i) (here xs i (c .loop-i-test .taken)) (c .loop-i .waiting) (order-fault 0 0 (map node-symbol xs)) (c .loop-i .inv .0)
-    (sym (c .if-is-solid .ensures tt)) (c .if-waiting-ge64 .taken)
+    record {
+      value =
+          solid-over (map node-symbol xs) i (row xs i) (here xs i (c .loop-i-test .taken)) (c .loop-i .waiting) (order-fault 0 0 (map node-symbol xs)) (c .loop-i .inv .0)
+          (sym (c .if-is-solid .ensures tt)) (c .if-waiting-ge64 .taken);
+      bound = omega (arith, c .loop-i-test .taken);
+    }
 
 pub returns-then-waiting-lt2 : need.returns-then-waiting-lt2
 returns-then-waiting-lt2 c =
     let xs = c .args .nodes .now in
     let i = c .loop-i .i in
-    operator-over (map node-symbol xs) i (row xs i) (here xs i (c .loop-i-test .taken)) (c .loop-i .waiting) (order-fault 0 0 (map node-symbol xs)) (c .loop-i .inv .0)
-    (sym (c .if-is-solid .ensures tt)) (c .if-waiting-lt2 .taken)
+    record {
+      value =
+          operator-over (map node-symbol xs) i (row xs i) (here xs i (c .loop-i-test .taken)) (c .loop-i .waiting) (order-fault 0 0 (map node-symbol xs)) (c .loop-i .inv .0)
+          (sym (c .if-is-solid .ensures tt)) (c .if-waiting-lt2 .taken);
+      bound = omega (arith, c .loop-i-test .taken);
+    }
 
 pub loop-i-again : need.loop-i-again
 loop-i-again c =
@@ -60,7 +68,11 @@ returns-then-waiting-eq1 c =
     let l = map node-symbol xs in
     let i = c .loop-i .i in
     let done : i ≡ length l = omega (arith, length-map xs node-symbol, c .loop-i-test .left, c .loop-i .kept .i-end) in
-    end-one l i done (order-fault 0 0 l) (sym (ap (λ w. order-fault i w (drop i l)) (c .if-waiting-eq1 .taken)) ∙ c .loop-i .inv .0)
+    record {
+      value =
+          end-one l i done (order-fault 0 0 l) (sym (ap (λ w. order-fault i w (drop i l)) (c .if-waiting-eq1 .taken)) ∙ c .loop-i .inv .0);
+      bound = tt;
+    }
 
 pub returns-else-waiting-eq1 : need.returns-else-waiting-eq1
 returns-else-waiting-eq1 c =
@@ -68,4 +80,8 @@ returns-else-waiting-eq1 c =
     let l = map node-symbol xs in
     let i = c .loop-i .i in
     let done : i ≡ length l = omega (arith, length-map xs node-symbol, c .loop-i-test .left, c .loop-i .kept .i-end) in
-    ap Some (sym (length-map xs node-symbol)) ∙ end-other l i done (c .loop-i .waiting) (order-fault 0 0 l) (c .loop-i .inv .0) (c .if-waiting-eq1 .left)
+    record {
+      value =
+          ap Some (sym (length-map xs node-symbol)) ∙ end-other l i done (c .loop-i .waiting) (order-fault 0 0 l) (c .loop-i .inv .0) (c .if-waiting-eq1 .left);
+      bound = omega arith;
+    }
