@@ -20,6 +20,7 @@ use solids::solid::Solid;
 // A pair of kinds. The length of a solid's record is its kind's `Record::LENGTH`.
 pub trait Make {
     type Solid: Solid + Record + Copy;
+
     type Joint: Joint + Record + Copy;
 
     // the make's number in a file's header
@@ -41,6 +42,7 @@ pub struct CatalogueMake;
 
 pub impl Make for CatalogueMake as CatalogueMakeMake {
     type Solid = CatalogueSolid;
+
     type Joint = HouseJoint;
 
     const NUMBER: u16 = 1;
@@ -57,6 +59,7 @@ pub struct ProbedMake;
 
 pub impl Make for ProbedMake as ProbedMakeMake {
     type Solid = Probed;
+
     type Joint = SoftJoint;
 
     const NUMBER: u16 = 2;

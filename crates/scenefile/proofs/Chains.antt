@@ -11,9 +11,10 @@ use Rattle.records.specs.Node.{node-record, kind-number}
 use Rattle.scene.specs.Used.{names}
 use Rattle.scenefile.specs.Checks.{_then_, No-node, solids-check, joints-check, nodes-check, order-check, unused-check, node-rows, Rows-fine}
 use Rattle.scenefile.specs.Counted.{Counted}
-use Rattle.scenefile.specs.Header.{count, solids-start, joints-start, nodes-start}
+use Rattle.scenefile.specs.Header.{header-fault, count, solids-start, joints-start, nodes-start}
 use Rattle.scenefile.specs.Rows.{row, rows, First, Nobodys}
 use Rattle.scenefile.specs.declared.counts.Counts.{Counts}
+use Rattle.scenefile.specs.declared.counts.Rooms.{Rooms}
 use Rattle.space.specs.declared.refusal.Refusal.{Refusal}
 use Rattle.space.specs.declared.refusal.Refusal.the-variants as refusal
 use Rattle.space.specs.declared.refusal.Table.the-variants.{Solids, Joints, Nodes}
@@ -73,8 +74,8 @@ module _ (size : ℕ) (bytes : List ℕ) (counts : Counts) (counted : Counted by
   over P h =
       subst (λ s. P s (count Joints bytes) (count Nodes bytes) (nodes-start size bytes)) (counted .solids-is)
       (subst (λ j. P (counts .solids) j (count Nodes bytes) (nodes-start size bytes)) (counted .joints-is)
-       (subst (λ n. P (counts .solids) (counts .joints) n (nodes-start size bytes)) (counted .nodes-is)
-        (subst (λ st. P (counts .solids) (counts .joints) (counts .nodes) st) begins h)))
+      (subst (λ n. P (counts .solids) (counts .joints) n (nodes-start size bytes)) (counted .nodes-is)
+      (subst (λ st. P (counts .solids) (counts .joints) (counts .nodes) st) begins h)))
 
   pub nodes-refused : (i : ℕ) → First (λ k. No-node (counts .solids) (counts .joints) (row bytes start 4 k)) (counts .nodes) i → nodes-check size bytes (refusal.Node i)
   nodes-refused i first = (i, refl, over (λ s j n st. First (λ k. No-node s j (row bytes st 4 k)) n i) first)
@@ -111,7 +112,7 @@ module _ {S J : Type 0} (solid-record : S → List ℕ) (joint-record : J → Li
   joints-over P h =
       subst (λ n. P n (joints-start size bytes) 4) (counted .joints-is)
       (subst (λ st. P (counts .joints) st 4) begins
-       (subst (λ w. P (counts .joints) start w) four h))
+      (subst (λ w. P (counts .joints) start w) four h))
 
   module _ (solids-fine : (k : ℕ) → k < counts .solids → Nobodys solid-record (row bytes solids-start size k) → ⊥) where
     pub solids-pass : (f : Refusal) → solids-check size solid-record bytes f → ⊥
@@ -125,3 +126,20 @@ module _ {S J : Type 0} (solid-record : S → List ℕ) (joint-record : J → Li
       solids-good = solids-over (λ n. (k : ℕ) → k < n → Nobodys solid-record (row bytes solids-start size k) → ⊥) solids-fine;
       joints-good = joints-over (λ n st w. (k : ℕ) → k < n → Nobodys joint-record (row bytes st w k) → ⊥) joints-fine;
     }
+
+-- ---- all checks
+
+pub header-pass : (make size : ℕ) (bytes : List ℕ) (rooms : Rooms) → header-fault make size bytes rooms ≡ None → (f : Refusal) → header-fault make size bytes rooms ≡ Some f → ⊥
+header-pass make size bytes rooms none f fault = let e : _≡_ {A = Option Refusal} (Some f) None = sym fault ∙ none in let z : _≡_ {A = ℕ} 0 1 = cc in omega arith
+
+-- two checks in a row, with more to come
+pub then-more : (A B C : Refusal → Type 0) (e : Refusal) → (A then B) e → (A then B then C) e
+then-more A B C e (inl a) = inl a
+then-more A B C e (inr b) = inr (b .0, inl (b .1))
+
+module _ {S J : Type 0} (solid-record : S → List ℕ) (joint-record : J → List ℕ) (size : ℕ) (bytes : List ℕ) (fine : Rows-fine size solid-record joint-record bytes) where
+  pub solids-all-pass : (f : Refusal) → solids-check size solid-record bytes f → ⊥
+  solids-all-pass f bad = fine .solids-good (bad .0) (bad .2 .within) (bad .2 .here)
+
+  pub joints-all-pass : (f : Refusal) → joints-check size joint-record bytes f → ⊥
+  joints-all-pass f bad = fine .joints-good (bad .0) (bad .2 .within) (bad .2 .here)

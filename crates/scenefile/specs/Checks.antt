@@ -7,8 +7,10 @@ use mathlib.Core.Path.{_≡_}
 use Rattle.records.specs.Node.{node-record}
 use Rattle.scene.specs.Lists.{named, all-named}
 use Rattle.scene.specs.Used.{names, all-used}
+use Rattle.scenefile.specs.Counted.{Counted, Roomy}
 use Rattle.scenefile.specs.Header.{header-fault, count, solids-start, joints-start, nodes-start}
 use Rattle.scenefile.specs.Rows.{row, rows, First, Nobodys}
+use Rattle.scenefile.specs.declared.counts.Counts.{Counts}
 use Rattle.scenefile.specs.declared.counts.Rooms.{Rooms}
 use Rattle.space.specs.declared.refusal.Refusal.{Refusal}
 use Rattle.space.specs.declared.refusal.Refusal.the-variants as refusal
@@ -84,9 +86,10 @@ module _ {S J : Type 0} (make size : ℕ) (solid-record : S → List ℕ) (joint
       then order-check size bytes
       then unused-check size bytes
 
-  -- no check refuses: the file's rows are those of these tables
-  pub record Accepted (solids : List S) (joints : List J) (nodes : List Node) : Type 0 where
-    pub header : header-fault make size bytes rooms ≡ None
-    pub solids-are : map solid-record solids ≡ solid-rows size bytes
-    pub joints-are : map joint-record joints ≡ joint-rows size bytes
-    pub tree : Tree-fine size bytes nodes
+  -- no check refuses, and these are the counts and the nodes
+  pub record Checked (c : Counts) (nodes : List Node) : Type 0 where
+    pub no-fault : header-fault make size bytes rooms ≡ None
+    pub counted : Counted bytes c
+    pub roomy : Roomy size bytes rooms c
+    pub rows-fine : Rows-fine size solid-record joint-record bytes
+    pub tree-fine : Tree-fine size bytes nodes

@@ -2,8 +2,8 @@
 ghost use Prim.Native.Nat.{ℕ, _*_, _+_, _≤_};
 ghost use mathlib.Core.Path.{_≡_};
 ghost use lib.ListN.{length, getD};
-ghost use Rattle.scenefile.specs.Counted.{Counted};
-ghost use Rattle.scenefile.specs.Header.{u16-at, u32-at, count-faults, layout-faults, room-faults, first-fault, header-fault};
+ghost use Rattle.scenefile.specs.Counted.{Counted, Roomy};
+ghost use Rattle.scenefile.specs.Header.{u16-at, u32-at, count-faults, layout-faults, room-faults, first-fault, header-fault, file-end};
 ghost use Rattle.std.specs.Results.{Cases};
 ghost use Rattle.std.specs.declared.option.Option.the-variants.{Some, None};
 use crate::counts::Counts;
@@ -58,7 +58,7 @@ fn check_counts(bytes: &[u8], make: u16) -> Result<Counts, Refusal>
 fn check_layout(bytes: &[u8], size: usize, counts: Counts) -> Result<(), Refusal>
     requires short { ⌜ size ≤ 1024 ⌝ }
     requires counted { ⌜ Counted (now bytes) counts ⌝ }
-    ensures { λ r. ⌜ Cases r (λ _. first-fault (layout-faults size (now (bytes .entry))) ≡ None) (λ e. first-fault (layout-faults size (now (bytes .entry))) ≡ Some e) ⌝ }
+    ensures { λ r. ⌜ Cases r (λ _. (first-fault (layout-faults size (now (bytes .entry))) ≡ None) × (length (now (bytes .entry)) ≡ file-end size (now (bytes .entry)))) (λ e. first-fault (layout-faults size (now (bytes .entry))) ≡ Some e) ⌝ }
 {
     if u32_at(bytes, 8) != 20 {
         return Err(Refusal::Offset(Table::Solids));
@@ -80,7 +80,7 @@ fn check_layout(bytes: &[u8], size: usize, counts: Counts) -> Result<(), Refusal
 // Each of the caller's tables has room for its rows.
 fn check_rooms(bytes: &[u8], rooms: Rooms, counts: Counts) -> Result<(), Refusal>
     requires { ⌜ Counted (now bytes) counts ⌝ }
-    ensures { λ r. ⌜ Cases r (λ _. first-fault (room-faults (now (bytes .entry)) rooms) ≡ None) (λ e. first-fault (room-faults (now (bytes .entry)) rooms) ≡ Some e) ⌝ }
+    ensures { λ r. ⌜ Cases r (λ _. (first-fault (room-faults (now (bytes .entry)) rooms) ≡ None) × (counts .solids ≤ rooms .solids) × (counts .joints ≤ rooms .joints) × (counts .nodes ≤ rooms .nodes) × (counts .nodes ≤ rooms .list)) (λ e. first-fault (room-faults (now (bytes .entry)) rooms) ≡ Some e) ⌝ }
 {
     if rooms.solids < counts.solids {
         return Err(Refusal::Room(Table::Solids));
@@ -106,7 +106,7 @@ pub(crate) fn check_header(
     rooms: Rooms,
 ) -> Result<Counts, Refusal>
     requires { ⌜ size ≤ 1024 ⌝ }
-    ensures { λ r. ⌜ Cases r (λ c. (header-fault make size (now (bytes .entry)) rooms ≡ None) × Counted (now (bytes .entry)) c) (λ e. header-fault make size (now (bytes .entry)) rooms ≡ Some e) ⌝ }
+    ensures { λ r. ⌜ Cases r (λ c. (header-fault make size (now (bytes .entry)) rooms ≡ None) × Counted (now (bytes .entry)) c × Roomy size (now (bytes .entry)) rooms c) (λ e. header-fault make size (now (bytes .entry)) rooms ≡ Some e) ⌝ }
 {
     match check_counts(bytes, make) {
         Ok(counts) => match check_layout(bytes, size, counts) {

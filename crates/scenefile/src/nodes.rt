@@ -26,7 +26,14 @@ fn is_within(node: Node, solids: usize, joints: usize) -> bool
 }
 
 // Record i of n, where it is that of a node which names a solid or a joint of the tables.
-fn read_within(bytes: &[u8], start: usize, n: usize, i: usize, solids: usize, joints: usize) -> Option<Node>
+fn read_within(
+    bytes: &[u8],
+    start: usize,
+    n: usize,
+    i: usize,
+    solids: usize,
+    joints: usize,
+) -> Option<Node>
     requires inside { ⌜ start + 4 * n ≤ length (now bytes) ⌝ }
     requires below { ⌜ i < n ⌝ }
     ensures { λ r. ⌜ Cases r (No-node solids joints (row (now (bytes .entry)) start 4 i)) (λ x. (node-record x ≡ row (now (bytes .entry)) start 4 i) × (named solids joints (node-symbol x) ≡ true)) ⌝ }
@@ -44,7 +51,14 @@ fn read_within(bytes: &[u8], start: usize, n: usize, i: usize, solids: usize, jo
 }
 
 // Reads n nodes into the front of a table, or answers the place of the first that is none.
-pub(crate) fn read_nodes(bytes: &[u8], start: usize, n: usize, solids: usize, joints: usize, table: &mut [Node]) -> Option<usize>
+pub(crate) fn read_nodes(
+    bytes: &[u8],
+    start: usize,
+    n: usize,
+    solids: usize,
+    joints: usize,
+    table: &mut [Node],
+) -> Option<usize>
     requires inside { ⌜ start + 4 * n ≤ length (now bytes) ⌝ }
     requires room { ⌜ n ≤ length (now table) ⌝ }
     ensures { λ r. ⌜ Cases r ((map node-record (take n (now (table .exit))) ≡ rows (now (bytes .entry)) start 4 n) × (all-named solids joints (map node-symbol (take n (now (table .exit)))) ≡ true) × ((k : ℕ) → k < n → No-node solids joints (row (now (bytes .entry)) start 4 k) → ⊥)) (λ i. First (λ k. No-node solids joints (row (now (bytes .entry)) start 4 k)) n i) ⌝ }

@@ -32,7 +32,11 @@ pub(crate) fn find_order_fault(nodes: &[Node]) -> Option<usize>
             waiting -= 1;
         }
     }
-    if waiting == 1 { None } else { Some(nodes.len()) }
+    if waiting == 1 {
+        None
+    } else {
+        Some(nodes.len())
+    }
 }
 
 fn is_solid(node: Node) -> bool

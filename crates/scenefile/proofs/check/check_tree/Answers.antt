@@ -14,9 +14,10 @@ returns-in-Some-find-order-fault c =
     let start = c .args .start in
     let nodes = take (counts .nodes) (c .read-nodes .last .table) in
     let read = c .in-rest .ensures tt in
-    inr
-    ( nodes-pass (c .args .size) bytes counts (c .pre .counted) start (c .pre .begins) (read .2)
-    , inl (order-refused (c .args .size) bytes counts (c .pre .counted) start (c .pre .begins) nodes (read .0) (c .in-Some-find-order-fault .i) (simp sub-zero at (c .in-Some-find-order-fault .ensures tt .value))) )
+    inr (
+      nodes-pass (c .args .size) bytes counts (c .pre .counted) start (c .pre .begins) (read .2),
+      inl (order-refused (c .args .size) bytes counts (c .pre .counted) start (c .pre .begins) nodes (read .0) (c .in-Some-find-order-fault .i) (simp sub-zero at (c .in-Some-find-order-fault .ensures tt .value))),
+    )
 
 pub returns-in-Some-find-unused : need.returns-in-Some-find-unused
 returns-in-Some-find-unused c =
@@ -26,8 +27,10 @@ returns-in-Some-find-unused c =
     let nodes = take (counts .nodes) (c .read-nodes .last .table) in
     let read = c .in-rest .ensures tt in
     let unused = c .in-Some-find-unused .ensures tt in
-    inr
-    ( nodes-pass (c .args .size) bytes counts (c .pre .counted) start (c .pre .begins) (read .2)
-    , inr
-      ( order-pass (c .args .size) bytes counts (c .pre .counted) start (c .pre .begins) nodes (read .0) (simp sub-zero at (c .in-rest-find-order-fault .ensures tt .value))
-      , unused-refused (c .args .size) bytes counts (c .pre .counted) start (c .pre .begins) nodes (read .0) (c .in-Some-find-unused .i) (unused .0) (simp sub-zero at (unused .1)) ) )
+    inr (
+      nodes-pass (c .args .size) bytes counts (c .pre .counted) start (c .pre .begins) (read .2),
+      inr (
+        order-pass (c .args .size) bytes counts (c .pre .counted) start (c .pre .begins) nodes (read .0) (simp sub-zero at (c .in-rest-find-order-fault .ensures tt .value)),
+        unused-refused (c .args .size) bytes counts (c .pre .counted) start (c .pre .begins) nodes (read .0) (c .in-Some-find-unused .i) (unused .0) (simp sub-zero at (unused .1)),
+      ),
+    )

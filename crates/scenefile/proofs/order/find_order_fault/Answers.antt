@@ -52,15 +52,18 @@ loop-i-again c =
     let l = map node-symbol xs in
     let o = order-fault 0 0 l in
     let at = here xs i (c .loop-i-test .taken) in
-    elim (c .if-is-solid .came)
-    [ then-is-solid·else-waiting-ge64 w ↦
-        rw (w .waiting-is)
-        ( solid-on l i (row xs i) at (c .loop-i .waiting) o (c .loop-i .inv .0) (sym (c .is-solid .ensures) ∙ w .if-is-solid .taken) (w .if-waiting-ge64 .left)
-        , omega (arith, w .if-waiting-ge64 .left) )
-    | else-is-solid·else-waiting-lt2 w ↦
-        rw (w .waiting-is)
-        ( operator-on l i (row xs i) at (c .loop-i .waiting) o (c .loop-i .inv .0) (sym (c .is-solid .ensures) ∙ w .if-is-solid .left) (w .if-waiting-lt2 .left)
-        , omega (arith, c .loop-i .inv .1) ) ]
+    elim (c .if-is-solid .came) [
+      | then-is-solid·else-waiting-ge64 w ↦
+          rw (w .waiting-is) (
+            solid-on l i (row xs i) at (c .loop-i .waiting) o (c .loop-i .inv .0) (sym (c .is-solid .ensures) ∙ w .if-is-solid .taken) (w .if-waiting-ge64 .left),
+            omega (arith, w .if-waiting-ge64 .left),
+          )
+      | else-is-solid·else-waiting-lt2 w ↦
+          rw (w .waiting-is) (
+            operator-on l i (row xs i) at (c .loop-i .waiting) o (c .loop-i .inv .0) (sym (c .is-solid .ensures) ∙ w .if-is-solid .left) (w .if-waiting-lt2 .left),
+            omega (arith, c .loop-i .inv .1),
+          )
+    ]
 
 pub returns-then-waiting-eq1 : need.returns-then-waiting-eq1
 returns-then-waiting-eq1 c =

@@ -11,10 +11,12 @@ pub loop-i-again : need.loop-i-again
 loop-i-again g c =
     let i = c .loop-i .i in
     let table = c .loop-i .table in
-    elim (c .match-read-row .came)
-    [ in-Some w ↦
-        let within : i < length table = omega (arith, c .loop-i .kept .table, c .loop-i-test .taken, c .pre .room) in
-        rw (w .table-is)
-        ( rows-more (g .R·Record .written) table (c .args .bytes .now) (c .args .start) (g .R·Record .size) i (w .in-Some .x) within (w .in-Some .ensures tt) (c .loop-i .inv .0)
-        , drop-set table i (c .args .n) (w .in-Some .x) (c .loop-i-test .taken) ∙ c .loop-i .inv .1 )
-    | in-None w ↦ absurd (c .pre .good i (c .loop-i-test .taken) (w .in-None .ensures tt)) ]
+    elim (c .match-read-row .came) [
+      | in-Some w ↦
+          let within : i < length table = omega (arith, c .loop-i .kept .table, c .loop-i-test .taken, c .pre .room) in
+          rw (w .table-is) (
+            rows-more (g .R·Record .written) table (c .args .bytes .now) (c .args .start) (g .R·Record .size) i (w .in-Some .x) within (w .in-Some .ensures tt) (c .loop-i .inv .0),
+            drop-set table i (c .args .n) (w .in-Some .x) (c .loop-i-test .taken) ∙ c .loop-i .inv .1,
+          )
+      | in-None w ↦ absurd (c .pre .good i (c .loop-i-test .taken) (w .in-None .ensures tt))
+    ]

@@ -17,11 +17,12 @@ loop-i-again c =
     let i = c .loop-i .i in
     let list = c .loop-i .list in
     let d : Node = record { kind = Solid; turned = false; number = 0 } in
-    let within : i < length list = omega (arith, c .loop-i .kept .list, c .loop-i-test .taken, c .pre) in
-    ( entries-more nodes list i d (c .entry-of .result) (c .loop-i-test .taken) within
-      (c .entry-of .ensures ∙ ap (λ b. node-entry b (getD nodes i d)) (c .cut-after .ensures))
-      (c .loop-i .inv .0)
-    , drop-set list i (length nodes) (c .entry-of .result) (c .loop-i-test .taken) ∙ c .loop-i .inv .1 )
+    let within : i < length list = omega (arith, c .loop-i .kept .list, c .loop-i-test .taken, c .pre) in (
+      entries-more nodes list i d (c .entry-of .result) (c .loop-i-test .taken) within
+          (c .entry-of .ensures ∙ ap (λ b. node-entry b (getD nodes i d)) (c .cut-after .ensures))
+          (c .loop-i .inv .0),
+      drop-set list i (length nodes) (c .entry-of .result) (c .loop-i-test .taken) ∙ c .loop-i .inv .1,
+    )
 
 pub returns : need.returns
 returns c =
