@@ -2,6 +2,7 @@
 mod check;
 pub mod counts;
 mod header;
+pub mod load;
 mod nodes;
 mod order;
 mod rows;

@@ -3,7 +3,7 @@ ghost use Prim.Native.Nat.{ℕ, _+_, _*_, _≤_, _<_};
 ghost use mathlib.Core.Bool.{true};
 ghost use mathlib.Core.List.{map};
 ghost use mathlib.Core.Path.{_≡_};
-ghost use lib.ListN.{length, take};
+ghost use lib.ListN.{length, take, drop};
 ghost use Rattle.records.specs.Node.{node-record};
 ghost use Rattle.scene.specs.Lists.{named, all-named};
 ghost use Rattle.scenefile.specs.Checks.{No-node};
@@ -70,4 +70,14 @@ pub(crate) fn read_nodes(
         }
     }
     None
+}
+
+// Copies nodes into the front of a table.
+pub(crate) fn copy_nodes(nodes: &[Node], table: &mut [Node])
+    requires { ⌜ length (now nodes) ≤ length (now table) ⌝ }
+    ensures front { λ _. ⌜ take (length (now (nodes .entry))) (now (table .exit)) ≡ now (nodes .entry) ⌝ }
+    ensures rest { λ _. ⌜ drop (length (now (nodes .entry))) (now (table .exit)) ≡ drop (length (now (nodes .entry))) (now (table .entry)) ⌝ }
+{
+    let n = nodes.len();
+    table[0..n].copy_from_slice(nodes);
 }
