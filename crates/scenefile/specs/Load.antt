@@ -7,11 +7,12 @@ use lib.ListN.{length, take, drop}
 use Rattle.records.specs.Node.{node-record}
 use Rattle.scene.specs.Used.{names}
 use Rattle.scenefile.specs.Checks.{solid-rows, joint-rows, node-rows, Tree-fine, Refused}
+use Rattle.scenefile.specs.Counted.{Counted, Roomy}
 use Rattle.scenefile.specs.Header.{header-fault, count}
 use Rattle.scenefile.specs.declared.counts.Counts.{Counts}
 use Rattle.scenefile.specs.declared.counts.Rooms.{Rooms}
 use Rattle.space.specs.declared.refusal.Refusal.{Refusal}
-use Rattle.space.specs.declared.refusal.Table.the-variants.{Solids, Joints, Nodes}
+use Rattle.space.specs.declared.refusal.Table.the-variants.{Solids}
 use Rattle.std.specs.declared.option.Option.the-variants.{None}
 use Rattle.std.specs.declared.result.Result.{Result}
 use Rattle.std.specs.declared.result.Result.the-variants.{Ok, Err}
@@ -31,9 +32,8 @@ pub record Held (S J : Type 0) : Type 0 where
 -- they were.
 pub record Loaded {S J : Type 0} (make size : ℕ) (solid-record : S → List ℕ) (joint-record : J → List ℕ) (bytes : List ℕ) (rooms : Rooms) (was is : Held S J) (c : Counts) : Type 0 where
   pub no-fault : header-fault make size bytes rooms ≡ None
-  pub solid-count : c .solids ≡ count Solids bytes
-  pub joint-count : c .joints ≡ count Joints bytes
-  pub node-count : c .nodes ≡ count Nodes bytes
+  pub counted : Counted bytes c
+  pub roomy : Roomy size bytes rooms c
   pub solids-are : map solid-record (take (c .solids) (is .solids)) ≡ solid-rows size bytes
   pub joints-are : map joint-record (take (c .joints) (is .joints)) ≡ joint-rows size bytes
   pub nodes-are : Tree-fine size bytes (take (c .nodes) (is .nodes))
@@ -57,3 +57,10 @@ pub record Unused-solid (size : ℕ) (bytes : List ℕ) (n : ℕ) : Type 0 where
   pub nodes : List Node
   pub nodes-are : map node-record nodes ≡ node-rows size bytes
   pub unnamed : names n (map node-symbol nodes) ≡ false
+
+-- the scene that a file is: the rows of its tables are the file's
+pub record Scene-of {S J : Type 0} (make size : ℕ) (solid-record : S → List ℕ) (joint-record : J → List ℕ) (bytes : List ℕ) (rooms : Rooms) (solids : List S) (joints : List J) (nodes : List Node) : Type 0 where
+  pub no-fault : header-fault make size bytes rooms ≡ None
+  pub solids-are : map solid-record solids ≡ solid-rows size bytes
+  pub joints-are : map joint-record joints ≡ joint-rows size bytes
+  pub nodes-are : map node-record nodes ≡ node-rows size bytes

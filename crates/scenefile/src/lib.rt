@@ -5,5 +5,7 @@ mod header;
 pub mod load;
 mod nodes;
 mod order;
+pub mod read;
 mod rows;
+pub mod tables;
 mod whole;

@@ -48,9 +48,8 @@ returns-in-Ok g c =
     record {
       outcome = record {
         no-fault = subst (λ m. header-fault m (S .size) b (rooms-of (record { solids = c .args .solids .now; joints = c .args .joints .now; nodes = c .args .nodes .now; list = c .args .list .now })) ≡ None) (c .make .ensures) (checked .no-fault);
-        solid-count = checked .counted .solids-is;
-        joint-count = checked .counted .joints-is;
-        node-count = checked .counted .nodes-is;
+        counted = checked .counted;
+        roomy = checked .roomy;
         solids-are = c .fill .ensures .front ∙ solid-rows-are _ (S .size) (S .written) (J .written) b _ counts _ checked;
         joints-are = c .fill-in-Ok .ensures .front ∙ joint-rows-are _ (S .size) (S .written) (J .written) b _ counts _ checked (c .size-size .result) (J .size) (c .size-size .ensures) (g .M·Make·met .«joint_length»);
         nodes-are = subst (Tree-fine (S .size) b) (sym nodes-front) (checked .tree-fine);
