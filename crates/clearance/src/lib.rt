@@ -1,0 +1,3 @@
+// What a scene answers to a line of a script, and figures worked out by hand.
+pub mod call;
+pub mod reading;

@@ -1,0 +1,33 @@
+// Reading a line of a script.
+ghost use mathlib.Core.Path.{_≡_};
+ghost use Rattle.clearance.specs.Lines.{number, coordinate};
+
+// A field as a number: one to five digits.
+fn read_number(field: &str) -> Option<u32>
+    ensures { λ r. ⌜ r ≡ number (now (field .entry)) ⌝ }
+{
+    if field.len() > 5 {
+        return None;
+    }
+    // `parse` takes a plus
+    if field.starts_with('+') {
+        return None;
+    }
+    field.parse::<u32>().ok()
+}
+
+// A field as a coordinate: a number, with or without a minus.
+fn read_coordinate(field: &str) -> Option<i32>
+    ensures { λ r. ⌜ r ≡ coordinate (now (field .entry)) ⌝ }
+{
+    match field.strip_prefix('-') {
+        Some(digits) => match read_number(digits) {
+            Some(n) => Some(-(n as i32)),
+            None => None,
+        },
+        None => match read_number(field) {
+            Some(n) => Some(n as i32),
+            None => None,
+        },
+    }
+}
