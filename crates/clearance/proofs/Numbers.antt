@@ -6,11 +6,12 @@ use mathlib.Core.Bool.{Bool, true, false, cond, _&&_}
 use mathlib.Core.List.{List, [], _∷_}
 use mathlib.Core.Logic.{⊎-elim}
 use mathlib.Core.Path.{_≡_, refl, sym, ap, _∙_}
-use lib.Dec.{leb, lit<}
+use lib.Dec.{leb, eqb}
 use lib.ListN.{length, getD}
-use Rattle.clearance.specs.Lines.{all-digits, decimal-after, is-number, number}
+use lib.IntN.{ℤ, pos, negℤ}
+use Rattle.clearance.specs.Lines.{all-digits, decimal-after, is-number, number, signed-by, coordinate}
 use Rattle.std.proofs.shelf.Numerals.{Numerals, numerals-by-fold, parse-plain, value-short, not-in-digits}
-use Rattle.std.proofs.shelf.Tests.{leb-true, le-leb, and-parts, and-from, cases-bool, cond-true, cond-false}
+use Rattle.std.proofs.shelf.Tests.{leb-true, le-leb, and-parts, and-from, cases-bool, cond-true, cond-false, ne-eqb}
 use Rattle.std.specs.Numbers.{Converted}
 use Rattle.std.specs.Reads.{ReadsUnsigned}
 use Rattle.std.specs.Results.{okPart}
@@ -73,3 +74,12 @@ plus-none field e = number-none field (λ n. not-in-digits own field 43 (n .2) (
 
 pub long-none : (field : List ℕ) → 5 < length field → number field ≡ None
 long-none field h = number-none field (λ n. omega arith)
+
+-- a coordinate's field, with and without a minus
+pub coordinate-minus : (field digits : List ℕ) → field ≡ 45 ∷ digits → coordinate field ≡ signed-by (λ n. negℤ (pos n)) (number digits)
+coordinate-minus field digits e = ap coordinate e
+
+pub coordinate-plain : (field : List ℕ) → ((digits : List ℕ) → field ≡ 45 ∷ digits → ⊥) → coordinate field ≡ signed-by pos (number field)
+coordinate-plain [] plain = ap (signed-by pos) (sym (number-none [] (λ n. omega arith)))
+coordinate-plain (b ∷ rest) plain =
+    cond-false (eqb b 45) _ _ (ne-eqb b 45 (λ e. plain rest (ap (λ (x : ℕ). x ∷ rest) e)))

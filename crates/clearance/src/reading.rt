@@ -1,6 +1,7 @@
 // Reading a line of a script.
 ghost use mathlib.Core.Path.{_≡_};
-ghost use Rattle.clearance.specs.Lines.{number, coordinate};
+ghost use Rattle.clearance.specs.Lines.{number, coordinate, fields, distance-call};
+use crate::call::Call;
 
 // A field as a number: one to five digits.
 fn read_number(field: &str) -> Option<u32>
@@ -30,4 +31,13 @@ fn read_coordinate(field: &str) -> Option<i32>
             None => None,
         },
     }
+}
+
+// Three fields as the coordinates of a point.
+fn read_point(text: &str) -> Option<Call>
+    ensures { λ r. ⌜ r ≡ distance-call (fields (now (text .entry))) ⌝ }
+{
+    let (x, rest) = text.split_once(' ')?;
+    let (y, z) = rest.split_once(' ')?;
+    Some(Call::Distance(read_coordinate(x)?, read_coordinate(y)?, read_coordinate(z)?))
 }
