@@ -1,6 +1,6 @@
 // Reading a line of a script.
 ghost use mathlib.Core.Path.{_≡_};
-ghost use Rattle.clearance.specs.Lines.{number, coordinate, fields, distance-call};
+ghost use Rattle.clearance.specs.Lines.{number, coordinate, fields, distance-call, SplitsField};
 use crate::call::Call;
 
 // A field as a number: one to five digits.
@@ -33,11 +33,18 @@ fn read_coordinate(field: &str) -> Option<i32>
     }
 }
 
+// The first field and what follows its space, where the text has more than one field.
+fn split_field(text: &str) -> Option<(&str, &str)>
+    ensures { λ r. ⌜ SplitsField (now (text .entry)) r ⌝ }
+{
+    text.split_once(' ')
+}
+
 // Three fields as the coordinates of a point.
 fn read_point(text: &str) -> Option<Call>
     ensures { λ r. ⌜ r ≡ distance-call (fields (now (text .entry))) ⌝ }
 {
-    let (x, rest) = text.split_once(' ')?;
-    let (y, z) = rest.split_once(' ')?;
+    let (x, rest) = split_field(text)?;
+    let (y, z) = split_field(rest)?;
     Some(Call::Distance(read_coordinate(x)?, read_coordinate(y)?, read_coordinate(z)?))
 }
