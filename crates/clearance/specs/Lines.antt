@@ -82,3 +82,7 @@ call-from (name ∷ arguments) = call-named name arguments
 -- the call of a line, if it is one
 abbrev pub call-of : List ℕ → Option Call
 call-of line = call-from (fields line)
+
+-- the text after a name of one letter and its space; a line without is no call
+abbrev pub AfterLetter : List ℕ → Option (RefT (List ℕ)) → Type 0
+AfterLetter line r = Cases r (call-of line ≡ None) (λ rest. (b : ℕ) × (fields line ≡ (b ∷ []) ∷ fields (rest .now)))

@@ -1,6 +1,6 @@
 // Reading a line of a script.
 ghost use mathlib.Core.Path.{_≡_};
-ghost use Rattle.clearance.specs.Lines.{number, coordinate, fields, distance-call, SplitsField};
+ghost use Rattle.clearance.specs.Lines.{number, coordinate, fields, distance-call, call-of, SplitsField, AfterLetter};
 use crate::call::Call;
 
 // A field as a number: one to five digits.
@@ -47,4 +47,22 @@ fn read_point(text: &str) -> Option<Call>
     let (x, rest) = split_field(text)?;
     let (y, z) = split_field(rest)?;
     Some(Call::Distance(read_coordinate(x)?, read_coordinate(y)?, read_coordinate(z)?))
+}
+
+// What follows a name of one letter and its space.
+fn after_letter(line: &str) -> Option<&str>
+    ensures { λ r. ⌜ AfterLetter (now (line .entry)) r ⌝ }
+{
+    let (name, rest) = split_field(line)?;
+    if name.len() == 1 { Some(rest) } else { None }
+}
+
+// The call that a line makes, if it makes one.
+pub fn read_call(line: &str) -> Option<Call>
+    ensures { λ r. ⌜ r ≡ call-of (now (line .entry)) ⌝ }
+{
+    match line.chars().next() {
+        Some('s') => read_point(after_letter(line)?),
+        _ => None,
+    }
 }
