@@ -1,3 +1,4 @@
 pub mod Fields
 pub mod Letters
 pub mod Numbers
+pub mod Replies
