@@ -15,8 +15,8 @@ use Rattle.tree.specs.Parts.{Parts}
 use Rattle.tree.specs.Spell.{Symbol}
 
 -- the numbers that were passed are equal to those that were called for
-pub answers-at : (P : Parts) (nodes : List Symbol) (p : Pt) (v w x y z x′ y′ z′ : ℤ) → Ok p ≡ pt-outcome x′ y′ z′ → x′ ≡ x → y′ ≡ y → z′ ≡ z → Distance P nodes p v → w ≡ v → AnswersAt P nodes (pt-outcome x y z) (At w)
-answers-at P nodes p v w x y z x′ y′ z′ e ex ey ez d same =
+pub answers-at : (x y z : ℤ) (P : Parts) (nodes : List Symbol) (p : Pt) (v w x′ y′ z′ : ℤ) → Ok p ≡ pt-outcome x′ y′ z′ → x′ ≡ x → y′ ≡ y → z′ ≡ z → Distance P nodes p v → w ≡ v → AnswersAt P nodes (pt-outcome x y z) (At w)
+answers-at x y z P nodes p v w x′ y′ z′ e ex ey ez d same =
     subst
     (λ (o : Result Pt Refusal). AnswersAt P nodes o (At w))
     (e ∙ (λ i. pt-outcome (ex i) (ey i) (ez i)))
