@@ -2,3 +2,4 @@ pub mod Fields
 pub mod Letters
 pub mod Numbers
 pub mod Replies
+pub mod Worked

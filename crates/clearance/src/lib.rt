@@ -2,5 +2,6 @@
 pub mod answer;
 pub mod call;
 pub mod display;
+pub mod figures;
 pub mod reading;
 pub mod script;
