@@ -80,15 +80,15 @@ one-or-spaced [] = inl fields-none
 one-or-spaced (b ∷ rest) =
     ⊎-elim
     (λ space.
-        let fs = first-of (fields rest) (fields-some rest) in
-        let e = ap (λ (x : ℕ). fields (x ∷ rest)) space ∙ fields-space rest ∙ ap (λ (x : List (List ℕ)). [] ∷ x) (fs .2) in
-        inr (([], fs .0, fs .1, e), ap (λ (x : ℕ). all-digits (x ∷ rest)) space))
+    let fs = first-of (fields rest) (fields-some rest) in
+    let e = ap (λ (x : ℕ). fields (x ∷ rest)) space ∙ fields-space rest ∙ ap (λ (x : List (List ℕ)). [] ∷ x) (fs .2) in
+    inr (([], fs .0, fs .1, e), ap (λ (x : ℕ). all-digits (x ∷ rest)) space))
     (λ other.
-        let e = fields-other b rest other in
-        ⊎-elim
-        (λ one. inl (e ∙ ap (onto-first b) one))
-        (λ more. inr ((b ∷ more .0 .0, more .0 .1, more .0 .2, e ∙ ap (onto-first b) (more .0 .3)), not-digits b rest (more .1)))
-        (one-or-spaced rest))
+    let e = fields-other b rest other in
+    ⊎-elim
+    (λ one. inl (e ∙ ap (onto-first b) one))
+    (λ more. inr ((b ∷ more .0 .0, more .0 .1, more .0 .2, e ∙ ap (onto-first b) (more .0 .3)), not-digits b rest (more .1)))
+    (one-or-spaced rest))
     (cases-eq b 32)
 
 undigited : (bs : List ℕ) → all-digits bs ≡ false → number bs ≡ None
@@ -120,9 +120,9 @@ call-of-three x y z =
     ⊎-elim
     (λ one. ap (λ (fs : List (List ℕ)). distance-call (x ∷ (y ∷ fs))) one)
     (λ more.
-        ap (λ (fs : List (List ℕ)). distance-call (x ∷ (y ∷ fs))) (more .0 .3)
-        ∙ sym (nowhere (coordinate x) (coordinate y))
-        ∙ ap (distance-at (coordinate x) (coordinate y)) (sym (more .1)))
+    ap (λ (fs : List (List ℕ)). distance-call (x ∷ (y ∷ fs))) (more .0 .3)
+    ∙ sym (nowhere (coordinate x) (coordinate y))
+    ∙ ap (distance-at (coordinate x) (coordinate y)) (sym (more .1)))
     (spaced-or z)
 
 -- the call of three coordinates that were read one by one
@@ -164,6 +164,7 @@ other-letter (b ∷ rest) other =
   where
     not-s : (fs : List (List ℕ)) → cond (eqb b 115) (distance-call fs) None ≡ None
     not-s fs = cond-false (eqb b 115) _ _ (ne-eqb b 115 (λ e. other rest (ap (λ (x : ℕ). x ∷ rest) e)))
+
     by-rest : (fs : List (List ℕ)) → call-from (onto-first b fs) ≡ None
     by-rest [] = not-s []
     by-rest ([] ∷ fs) = not-s fs

@@ -26,10 +26,10 @@ pub other-character : (line whole rest : List ℕ) (c : ℕ) → whole ≡ line 
 other-character line whole rest c same e other =
     sym
     (other-letter
-        line
-        (λ more s.
-            let first : getD line 0 0 ≡ 115 = ap (λ (x : List ℕ). getD x 0 0) s in
-            other (inside-one c rest line 0 (sym same ∙ e) (wide c) (omega arith) ∙ first)))
+    line
+    (λ more s.
+    let first : getD line 0 0 ≡ 115 = ap (λ (x : List ℕ). getD x 0 0) s in
+    other (inside-one c rest line 0 (sym same ∙ e) (wide c) (omega arith) ∙ first)))
 
 pub no-character : (line : List ℕ) → length line ≡ 0 → None ≡ call-of line
 no-character line none =

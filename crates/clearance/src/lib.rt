@@ -5,3 +5,5 @@ pub mod display;
 pub mod figures;
 pub mod reading;
 pub mod script;
+#[cfg(test)]
+mod tests;

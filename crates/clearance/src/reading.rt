@@ -46,7 +46,11 @@ fn read_point(text: &str) -> Option<Call>
 {
     let (x, rest) = split_field(text)?;
     let (y, z) = split_field(rest)?;
-    Some(Call::Distance(read_coordinate(x)?, read_coordinate(y)?, read_coordinate(z)?))
+    Some(Call::Distance(
+        read_coordinate(x)?,
+        read_coordinate(y)?,
+        read_coordinate(z)?,
+    ))
 }
 
 // What follows a name of one letter and its space.

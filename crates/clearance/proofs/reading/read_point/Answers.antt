@@ -12,7 +12,7 @@ pub returns-in-Break-read-coordinate-3 : need.returns-in-Break-read-coordinate-3
 returns-in-Break-read-coordinate-3 c =
     c .from-residual-in-Break-read-coordinate-3 .ensures
     ∙ two-of-text (c .args .text .now) (c .in-Continue-x .x .now) (c .in-Continue-x .rest .now) (c .in-Continue-y .y .now) (c .in-Continue-y .z .now)
-      (c .in-Continue-x .ensures tt) (c .in-Continue-y .ensures tt) (c .in-Break-read-coordinate-3 .ensures tt)
+    (c .in-Continue-x .ensures tt) (c .in-Continue-y .ensures tt) (c .in-Break-read-coordinate-3 .ensures tt)
 
 pub returns : need.returns
 returns c =
@@ -21,6 +21,6 @@ returns c =
     let z-fits : SFits w32 (c .in-Continue-read-coordinate-3 .field-0) = search needs in
     (λ i. Some (Distance (toZ-ofZ w32 _ x-fits i) (toZ-ofZ w32 _ y-fits i) (toZ-ofZ w32 _ z-fits i)))
     ∙ call-of-text (c .args .text .now) (c .in-Continue-x .x .now) (c .in-Continue-x .rest .now) (c .in-Continue-y .y .now) (c .in-Continue-y .z .now)
-      (Some (c .in-Continue-read-coordinate .field-0)) (Some (c .in-Continue-read-coordinate-2 .field-0)) (Some (c .in-Continue-read-coordinate-3 .field-0))
-      (c .in-Continue-x .ensures tt) (c .in-Continue-y .ensures tt)
-      (c .in-Continue-read-coordinate .ensures tt) (c .in-Continue-read-coordinate-2 .ensures tt) (c .in-Continue-read-coordinate-3 .ensures tt)
+    (Some (c .in-Continue-read-coordinate .field-0)) (Some (c .in-Continue-read-coordinate-2 .field-0)) (Some (c .in-Continue-read-coordinate-3 .field-0))
+    (c .in-Continue-x .ensures tt) (c .in-Continue-y .ensures tt)
+    (c .in-Continue-read-coordinate .ensures tt) (c .in-Continue-read-coordinate-2 .ensures tt) (c .in-Continue-read-coordinate-3 .ensures tt)
