@@ -9,7 +9,7 @@ use lib.Dec.{eqb}
 use lib.ListN.{getD}
 use Rattle.records.specs.Node.{node-record, kind-number}
 use Rattle.scene.specs.Used.{names}
-use Rattle.scenefile.specs.Checks.{_then_, No-node, solids-check, joints-check, nodes-check, order-check, unused-check, node-rows, Rows-fine}
+use Rattle.scenefile.specs.Checks.{_▸_, No-node, solids-check, joints-check, nodes-check, order-check, unused-check, node-rows, Rows-fine}
 use Rattle.scenefile.specs.Counted.{Counted}
 use Rattle.scenefile.specs.Header.{header-fault, count, solids-start, joints-start, nodes-start}
 use Rattle.scenefile.specs.Rows.{row, rows, First, Nobodys}
@@ -133,7 +133,7 @@ pub header-pass : (make size : ℕ) (bytes : List ℕ) (rooms : Rooms) → heade
 header-pass make size bytes rooms none f fault = let e : _≡_ {A = Option Refusal} (Some f) None = sym fault ∙ none in let z : _≡_ {A = ℕ} 0 1 = cc in omega arith
 
 -- two checks in a row, with more to come
-pub then-more : (A B C : Refusal → Type 0) (e : Refusal) → (A then B) e → (A then B then C) e
+pub then-more : (A B C : Refusal → Type 0) (e : Refusal) → (A ▸ B) e → (A ▸ B ▸ C) e
 then-more A B C e (inl a) = inl a
 then-more A B C e (inr b) = inr (b .0, inl (b .1))
 

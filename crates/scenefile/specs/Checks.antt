@@ -26,9 +26,9 @@ No-node solids joints bytes = (x : Node) → node-record x ≡ bytes → named s
 
 -- A check: which refusals it gives. Of two checks in a row the second counts only where the first
 -- gives none.
-infixr 20 _then_
-abbrev pub _then_ : (Refusal → Type 0) → (Refusal → Type 0) → Refusal → Type 0
-_then_ check next e = check e ⊎ (((f : Refusal) → check f → ⊥) × next e)
+infixr 20 _▸_
+abbrev pub _▸_ : (Refusal → Type 0) → (Refusal → Type 0) → Refusal → Type 0
+_▸_ check next e = check e ⊎ (((f : Refusal) → check f → ⊥) × next e)
 
 -- the records of a file's tables, for solid records of `size` bytes
 abbrev pub solid-rows : ℕ → List ℕ → List (List ℕ)
@@ -80,11 +80,11 @@ module _ {S J : Type 0} (make size : ℕ) (solid-record : S → List ℕ) (joint
   abbrev pub Refused : Refusal → Type 0
   Refused =
       header-check
-      then solids-check size solid-record bytes
-      then joints-check size joint-record bytes
-      then nodes-check size bytes
-      then order-check size bytes
-      then unused-check size bytes
+      ▸ solids-check size solid-record bytes
+      ▸ joints-check size joint-record bytes
+      ▸ nodes-check size bytes
+      ▸ order-check size bytes
+      ▸ unused-check size bytes
 
   -- no check refuses, and these are the counts and the nodes
   pub record Checked (c : Counts) (nodes : List Node) : Type 0 where

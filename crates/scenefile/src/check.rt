@@ -7,7 +7,7 @@ ghost use lib.ListN.{length, take};
 ghost use Rattle.records.specs.Node.{node-record};
 ghost use Rattle.scene.specs.Lists.{all-named};
 ghost use Rattle.scene.specs.Used.{all-used};
-ghost use Rattle.scenefile.specs.Checks.{_then_, solids-check, joints-check, nodes-check, order-check, unused-check, Rows-fine, Tree-fine, Refused, Checked};
+ghost use Rattle.scenefile.specs.Checks.{_▸_, solids-check, joints-check, nodes-check, order-check, unused-check, Rows-fine, Tree-fine, Refused, Checked};
 ghost use Rattle.scenefile.specs.Counted.{Counted};
 ghost use Rattle.scenefile.specs.Header.{solids-start, joints-start, nodes-start, file-end};
 ghost use Rattle.scenefile.specs.Rows.{row, Nobodys};
@@ -38,7 +38,7 @@ fn check_tree(
     requires begins { ⌜ start ≡ nodes-start size (now bytes) ⌝ }
     requires inside { ⌜ start + 4 * counts .nodes ≤ length (now bytes) ⌝ }
     requires room { ⌜ counts .nodes ≤ length (now table) ⌝ }
-    ensures { λ r. ⌜ Cases r (λ _. Tree-fine size (now (bytes .entry)) (take (counts .nodes) (now (table .exit)))) (λ e. (nodes-check size (now (bytes .entry)) then order-check size (now (bytes .entry)) then unused-check size (now (bytes .entry))) e) ⌝ }
+    ensures { λ r. ⌜ Cases r (λ _. Tree-fine size (now (bytes .entry)) (take (counts .nodes) (now (table .exit)))) (λ e. (nodes-check size (now (bytes .entry)) ▸ order-check size (now (bytes .entry)) ▸ unused-check size (now (bytes .entry))) e) ⌝ }
 {
     let n = counts.nodes;
     if let Some(i) = read_nodes(bytes, start, n, counts.solids, counts.joints, table) {
@@ -64,7 +64,7 @@ fn check_rows<S: Record + Drop, J: Record + Drop>(
     requires four { ⌜ J·Record .size ≡ 4 ⌝ }
     requires begins { ⌜ start ≡ joints-start (S·Record .size) (now bytes) ⌝ }
     requires inside { ⌜ start + 4 * counts .joints ≤ length (now bytes) ⌝ }
-    ensures { λ r. ⌜ Cases r (λ _. Rows-fine (S·Record .size) (S·Record .written) (J·Record .written) (now (bytes .entry))) (λ e. (solids-check (S·Record .size) (S·Record .written) (now (bytes .entry)) then joints-check (S·Record .size) (J·Record .written) (now (bytes .entry))) e) ⌝ }
+    ensures { λ r. ⌜ Cases r (λ _. Rows-fine (S·Record .size) (S·Record .written) (J·Record .written) (now (bytes .entry))) (λ e. (solids-check (S·Record .size) (S·Record .written) (now (bytes .entry)) ▸ joints-check (S·Record .size) (J·Record .written) (now (bytes .entry))) e) ⌝ }
 {
     if let Some(i) = first_bad::<S>(bytes, 20, counts.solids) {
         return Err(Refusal::Solid(i as u16));

@@ -3,6 +3,7 @@ mod check;
 pub mod counts;
 mod header;
 pub mod load;
+pub mod make_number;
 mod nodes;
 mod order;
 pub mod read;

@@ -3,6 +3,7 @@ use space::refusal::Refusal;
 use tree::node::Entry;
 use tree::node::Node;
 
+#[derive(Drop)]
 pub struct Tables<'a, S, J> {
     pub solids: &'a mut [S],
     pub joints: &'a mut [J],
@@ -11,6 +12,7 @@ pub struct Tables<'a, S, J> {
 }
 
 // A refused file: why, and the tables handed back.
+#[derive(Drop)]
 pub struct Unread<'a, S, J> {
     pub refusal: Refusal,
     pub tables: Tables<'a, S, J>,

@@ -1,7 +1,7 @@
 use mathlib.Core.Logic.{inr}
 use mathlib.Core.Path.{_≡_, subst}
 use Rattle.std.specs.declared.option.Option.the-variants.{None}
-use Rattle.scenefile.specs.Checks.{_then_, solids-check, joints-check, nodes-check, order-check, unused-check}
+use Rattle.scenefile.specs.Checks.{_▸_, solids-check, joints-check, nodes-check, order-check, unused-check}
 use Rattle.scenefile.specs.Header.{header-fault}
 use Rattle.scenefile.proofs.Chains.{header-pass, then-more, solids-all-pass, joints-all-pass}
 use Rattle.scenefile.proofs.check.check.Needs as need
@@ -20,7 +20,7 @@ returns-in-Err-check-tree g c =
         solids-all-pass (S .written) (J .written) (S .size) b fine,
         inr (
           joints-all-pass (S .written) (J .written) (S .size) b fine,
-          subst (λ n. (nodes-check n b then order-check n b then unused-check n b) (c .in-Err-check-tree .e)) size-is (c .in-Err-check-tree .ensures tt),
+          subst (λ n. (nodes-check n b ▸ order-check n b ▸ unused-check n b) (c .in-Err-check-tree .e)) size-is (c .in-Err-check-tree .ensures tt),
         ),
       ),
     )
@@ -33,5 +33,5 @@ returns-in-Err-check-rows g c =
     let none = subst (λ n. header-fault (c .args .make) n b (c .args .rooms) ≡ None) (c .size-size .ensures) (c .in-Ok .ensures tt .0) in
     inr (
       header-pass (c .args .make) (S .size) b (c .args .rooms) none,
-      then-more (solids-check (S .size) (S .written) b) (joints-check (S .size) (J .written) b) (nodes-check (S .size) b then order-check (S .size) b then unused-check (S .size) b) (c .in-Err-check-rows .e) (c .in-Err-check-rows .ensures tt),
+      then-more (solids-check (S .size) (S .written) b) (joints-check (S .size) (J .written) b) (nodes-check (S .size) b ▸ order-check (S .size) b ▸ unused-check (S .size) b) (c .in-Err-check-rows .e) (c .in-Err-check-rows .ensures tt),
     )

@@ -1,0 +1,5 @@
+pub mod Fields
+pub mod Letters
+pub mod Numbers
+pub mod Replies
+pub mod Worked
