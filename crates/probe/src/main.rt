@@ -68,7 +68,12 @@ fn table<T: Copy>(heap: Global, row: T, n: usize) -> Result<Vec<T>, AllocError> 
 }
 
 // Reads a scene of a make into tables of the greatest size, which begin filled with these rows.
-fn run<M: Make>(rt: &LibcRuntime, bytes: &[u8], solid: M::Solid, joint: M::Joint) -> Result<(), AnyError> {
+fn run<M: Make>(
+    rt: &LibcRuntime,
+    bytes: &[u8],
+    solid: M::Solid,
+    joint: M::Joint,
+) -> Result<(), AnyError> {
     let node = Node {
         kind: NodeKind::Solid,
         turned: false,

@@ -18,7 +18,13 @@ use tree::node::Node;
 use tree::node::NodeKind;
 
 // Loads a scene file of a make, or refuses it and leaves every table as it was.
-pub fn load<M: Make>(bytes: &[u8], solids: &mut [M::Solid], joints: &mut [M::Joint], nodes: &mut [Node], list: &mut [Entry]) -> Result<Counts, Refusal>
+pub fn load<M: Make>(
+    bytes: &[u8],
+    solids: &mut [M::Solid],
+    joints: &mut [M::Joint],
+    nodes: &mut [Node],
+    list: &mut [Entry],
+) -> Result<Counts, Refusal>
     ensures outcome { λ r. ⌜ Outcome make (Solid·Record .size) (Solid·Record .written) (Joint·Record .written) (now (bytes .entry)) (record { solids = now (solids .entry); joints = now (joints .entry); nodes = now (nodes .entry); list = now (list .entry) }) (record { solids = now (solids .exit); joints = now (joints .exit); nodes = now (nodes .exit); list = now (list .exit) }) r ⌝ }
     ensures unused { λ r. ⌜ Cases r (λ c. Unit {0}) (λ e. (n : ℕ) → e ≡ Unused n → Unused-solid (Solid·Record .size) (now (bytes .entry)) n) ⌝ }
 {

@@ -35,6 +35,7 @@ use tree::node::Node;
 use tree::node::NodeKind;
 
 const SCENES: u32 = 48;
+
 const ORIGIN: Point = Point { x: 0, y: 0, z: 0 };
 
 // How many answers were compared, and how many differ.
@@ -55,10 +56,17 @@ struct Case<'a> {
 }
 
 // Compares one answer.
-fn compare(rt: &LibcRuntime, name: &str, line: &str, reply: Answer, wanted: &str, tally: &mut Tally) -> Result<(), AnyError> {
+fn compare(
+    rt: &LibcRuntime,
+    name: &str,
+    line: &str,
+    reply: Answer,
+    wanted: &str,
+    tally: &mut Tally,
+) -> Result<(), AnyError> {
     tally.all = tally.all.saturating_add(1);
     let text = format!(rt.alloc(), "{reply}")?;
-    if text.as_str() != wanted {
+    if text.as_bytes() != wanted.as_bytes() {
         tally.differ = tally.differ.saturating_add(1);
         println!(rt, "{name}: '{line}' is answered {text}, not {wanted}")?;
     }
@@ -66,7 +74,12 @@ fn compare(rt: &LibcRuntime, name: &str, line: &str, reply: Answer, wanted: &str
 }
 
 // Answers the lines of a case.
-fn answer_lines<S: Solid, J: Joint>(rt: &LibcRuntime, scene: &Scene<S, J>, case: Case<'_>, tally: &mut Tally) -> Result<(), AnyError> {
+fn answer_lines<S: Solid, J: Joint>(
+    rt: &LibcRuntime,
+    scene: &Scene<S, J>,
+    case: Case<'_>,
+    tally: &mut Tally,
+) -> Result<(), AnyError> {
     for (line, wanted) in case.script.split('\n').zip(case.wanted.split('\n')) {
         // what stands behind the last line feed is no line
         if !wanted.is_empty() {
@@ -86,7 +99,13 @@ fn table<T: Copy>(heap: Global, row: T, n: usize) -> Result<Vec<T>, AllocError> 
 }
 
 // Reads the file of a case and answers its lines; a refusal is its only answer.
-fn replay<M: Make>(rt: &LibcRuntime, case: Case<'_>, solid: M::Solid, joint: M::Joint, tally: &mut Tally) -> Result<(), AnyError> {
+fn replay<M: Make>(
+    rt: &LibcRuntime,
+    case: Case<'_>,
+    solid: M::Solid,
+    joint: M::Joint,
+    tally: &mut Tally,
+) -> Result<(), AnyError> {
     let node = Node {
         kind: NodeKind::Solid,
         turned: false,
@@ -109,7 +128,14 @@ fn replay<M: Make>(rt: &LibcRuntime, case: Case<'_>, solid: M::Solid, joint: M::
     };
     match read::<M>(case.bytes, tables) {
         Ok(scene) => answer_lines(rt, &scene, case, tally),
-        Err(unread) => compare(rt, case.name, "", Answer::No(unread.refusal), case.wanted, tally),
+        Err(unread) => compare(
+            rt,
+            case.name,
+            "",
+            Answer::No(unread.refusal),
+            case.wanted,
+            tally,
+        ),
     }
 }
 
