@@ -46,7 +46,7 @@ pub filled-all : (bytes : List ℕ) (count radius i : ℕ) (centres : List Point
 filled-all bytes count radius i centres long a b all f =
     let at : (k : ℕ) → k < 8 → point-record (getD centres k origin) ≡ elements (4 + 6 * k) 6 bytes = λ k h. f .read k (omega arith) in
     let parts : u16-le count ++ u16-le radius ++ centres-record 0 8 centres ≡ elements 0 52 bytes =
-        λ j. a j ++ b j ++ (at 0 (omega arith) j ++ (at 1 (omega arith) j ++ (at 2 (omega arith) j ++ (at 3 (omega arith) j ++ (at 4 (omega arith) j ++ (at 5 (omega arith) j ++ (at 6 (omega arith) j ++ at 7 (omega arith) j))))))) in
+    λ j. a j ++ b j ++ (at 0 (omega arith) j ++ (at 1 (omega arith) j ++ (at 2 (omega arith) j ++ (at 3 (omega arith) j ++ (at 4 (omega arith) j ++ (at 5 (omega arith) j ++ (at 6 (omega arith) j ++ at 7 (omega arith) j))))))) in
     parts ∙ elements-all 52 bytes long
 
 unused-set : (n i : ℕ) (p : Point) (cs : List Point) → (n ≤ i → is-origin p ≡ true) → all-origin (drop n cs) ≡ true → all-origin (drop n (set cs i p)) ≡ true
@@ -102,8 +102,8 @@ module _ (bytes : List ℕ) (s : Probed) (e : probed-record s ≡ bytes) (i : �
       let same = pt-same (at q) (at p) (point-fits q) (point-fits p) (centre-is ∙ sym is) in
       let digit : (k : ℕ) → getD (probed-record s) k 0 ≡ getD bytes k 0 = λ k. ap (λ xs. getD xs k 0) e in
       let counted =
-          two-digits (s .count) count
-          (digit 0 ∙ sym (ap (λ xs. getD xs 0 0) c))
-          (digit 1 ∙ sym (ap (λ xs. getD xs 1 0) c)) in
+      two-digits (s .count) count
+      (digit 0 ∙ sym (ap (λ xs. getD xs 0 0) c))
+      (digit 1 ∙ sym (ap (λ xs. getD xs 1 0) c)) in
       ap (λ (v : Pt). eqb (natAbs (v .x)) 0 && eqb (natAbs (v .y)) 0 && eqb (natAbs (v .z)) 0) (sym same)
       ∙ origin-past (s .count) i (s .centres) (omega arith) (s .unused)

@@ -24,6 +24,7 @@ use solids::solid::Solid;
 
 pub trait Make {
     type Solid: Solid + Copy;
+
     type Joint: Joint + Copy;
 
     // the make's number in a file's header
@@ -69,9 +70,11 @@ pub struct CatalogueMake;
 
 pub impl Make for CatalogueMake as CatalogueMakeMake {
     type Solid = CatalogueSolid;
+
     type Joint = HouseJoint;
 
     const NUMBER: u16 = 1;
+
     const SOLID_LENGTH: usize = 20;
 
     ghost make = { 1 };
@@ -104,9 +107,11 @@ pub struct ProbedMake;
 
 pub impl Make for ProbedMake as ProbedMakeMake {
     type Solid = Probed;
+
     type Joint = SoftJoint;
 
     const NUMBER: u16 = 2;
+
     const SOLID_LENGTH: usize = 52;
 
     ghost make = { 2 };

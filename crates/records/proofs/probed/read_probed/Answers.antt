@@ -25,10 +25,10 @@ returns-then-not-is-origin c s e =
 pub loop-i-again : need.loop-i-again
 loop-i-again c =
     let unused : c .u16-at-count .result ≤ c .loop-i .i → is-origin (c .in-Some .centre) ≡ true =
-        λ h. elim (c .else-i-count .came) [
-          else-i-count·by·then-i-count·else-not-is-origin w ↦ sym (w .if-not-is-origin .ensures tt)
-        | else-i-count·by·else-i-count w ↦ absurd (let f : ⊥ = omega (arith, w .if-i-count .left) in f)
-        ] in
+    λ h. elim (c .else-i-count .came) [
+      | else-i-count·by·then-i-count·else-not-is-origin w ↦ sym (w .if-not-is-origin .ensures tt)
+      | else-i-count·by·else-i-count w ↦ absurd (let f : ⊥ = omega (arith, w .if-i-count .left) in f)
+    ] in
     filled-more _ _ _ _ (c .in-Some .centre) (omega (arith, c .loop-i-test .taken)) (c .loop-i .inv) (c .in-Some .ensures tt) unused
 
 pub returns : need.returns
