@@ -1,6 +1,5 @@
-use borrow.Author.Needs.{needs}
-use Rattle.records.proofs.Digits.{two-u16}
+use Rattle.records.specs.Joint.{soft-fields}
 use Rattle.records.proofs.joint.read_soft.Needs as need
 
-pub returns-in-2 : need.returns-in-2
-returns-in-2 c = let all = two-u16 (c .args .bytes .now) (c .typed .bytes) (search needs) in cc
+pub returns-in-rest : need.returns-in-rest
+returns-in-rest c j e = c .in-rest .ensures tt (soft-fields j) e
