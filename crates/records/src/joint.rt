@@ -30,9 +30,7 @@ fn read_raw_joint(bytes: &[u8]) -> Option<RawJoint>
 pub(crate) fn read_house(bytes: &[u8]) -> Option<HouseJoint>
     ensures { λ r. ⌜ Reads house-record (now (bytes .entry)) r ⌝ }
 {
-    let Some(RawJoint { form, k }) = read_raw_joint(bytes) else {
-        return None;
-    };
+    let RawJoint { form, k } = read_raw_joint(bytes)?;
     match form {
         0 if k == 0 => Some(HouseJoint::Sharp),
         1 if 1 <= k && k <= 2048 => Some(HouseJoint::Rounded(Radius { k })),
@@ -43,9 +41,7 @@ pub(crate) fn read_house(bytes: &[u8]) -> Option<HouseJoint>
 pub(crate) fn read_soft(bytes: &[u8]) -> Option<SoftJoint>
     ensures { λ r. ⌜ Reads soft-record (now (bytes .entry)) r ⌝ }
 {
-    let Some(RawJoint { form, k }) = read_raw_joint(bytes) else {
-        return None;
-    };
+    let RawJoint { form, k } = read_raw_joint(bytes)?;
     match form {
         2 if 1 <= k && k <= 2048 => Some(SoftJoint(Radius { k })),
         _ => None,

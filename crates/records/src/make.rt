@@ -54,13 +54,15 @@ pub trait Make {
     fn make() -> u16
         ensures { λ r. ⌜ r ≡ make ⌝ };
 
-    // SOLID_LENGTH, likewise
+    // SOLID_LENGTH, for the same
     fn solid_size() -> usize
         ensures { λ r. ⌜ r ≡ «solid_size» ⌝ };
 
+    // the solid that the bytes are the record of, if any
     fn read_solid(bytes: &[u8]) -> Option<Self::Solid>
         ensures { λ r. ⌜ Reads «solid_record» (now (bytes .entry)) r ⌝ };
 
+    // the joint that the bytes are the record of, if any
     fn read_joint(bytes: &[u8]) -> Option<Self::Joint>
         ensures { λ r. ⌜ Reads «joint_record» (now (bytes .entry)) r ⌝ };
 }

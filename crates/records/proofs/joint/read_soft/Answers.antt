@@ -1,5 +1,6 @@
 use Rattle.records.specs.Joint.{soft-fields}
 use Rattle.records.proofs.joint.read_soft.Needs as need
 
-pub returns-in-rest : need.returns-in-rest
-returns-in-rest c j e = c .in-rest .ensures tt (soft-fields j) e
+pub returns-in-Break-form : need.returns-in-Break-form
+returns-in-Break-form c =
+    rw (c .from-residual .ensures) (λ j e. c .in-Break-form .ensures tt (soft-fields j) e)
