@@ -5,7 +5,7 @@ use tree::node::Node;
 use tree::node::NodeKind;
 
 // The node that the bytes are the record of, if any.
-pub fn read_node(bytes: &[u8]) -> Option<Node>
+pub(crate) fn read_node(bytes: &[u8]) -> Option<Node>
     ensures { λ r. ⌜ Reads node-record (now (bytes .entry)) r ⌝ }
 {
     let [kind, turned, low, high, rest @ ..] = bytes else {

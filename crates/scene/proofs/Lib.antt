@@ -1,1 +1,5 @@
+pub mod Loops
 pub mod Stacks
+pub mod Steps
+pub mod Tables
+pub mod Wholes

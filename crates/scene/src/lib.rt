@@ -1,5 +1,7 @@
 // Scenes: node tables, their whole lists, and the distance of a checked scene.
+pub mod distance;
 mod evaluate;
 mod joining;
+pub mod scene;
 mod stack;
 mod waiting;

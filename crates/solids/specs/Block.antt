@@ -1,4 +1,4 @@
--- The distance of a block. Assumes nothing.
+-- The distance of a block: by its excess along each axis, less the radius. Assumes nothing.
 use Prim.Native.Nat.{ℕ, _+_, _*_}
 use mathlib.Core.Bool.{cond}
 use lib.IntN.{ℤ, pos, negsuc, _-ℤ_, natAbs}
@@ -20,8 +20,7 @@ positive-square (negsuc n) = 0
 abbrev pub greatest : ℤ → ℤ → ℤ → ℤ
 greatest x y z = maxZ (maxZ x y) z
 
--- from the three excesses: where none is positive the greatest, otherwise the root of the sum of the
--- squares of the positive ones
+-- where no excess is positive the greatest, otherwise the root of the sum of the squares of the positive ones
 unfoldable pub box-distance : ℤ → ℤ → ℤ → ℤ
 box-distance x y z =
     cond (leZ (greatest x y z) (pos 0))

@@ -4,3 +4,5 @@ mod distances;
 pub mod kinds;
 pub mod probed;
 pub mod solid;
+#[cfg(test)]
+mod tests;

@@ -1,3 +1,5 @@
+pub mod Lawfuls
 pub mod Orders
 pub mod Runs
+pub mod Sizes
 pub mod Wholes

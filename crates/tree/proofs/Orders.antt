@@ -113,7 +113,8 @@ spell-one t u e =
 
 pub order-law : Order-law
 unfolding order-fault
-order-law l =
-    ( λ e. found 0 l [] e (omega arith)
-    , λ t e h. let c = clean t 0 0 [] (omega arith) in ap (order-fault 0 0) (sym e ∙ sym (append-nil (spell t))) ∙ c .1
-    , λ t u e f. spell-one t u (e ∙ sym f) )
+order-law l = (
+  λ e. found 0 l [] e (omega arith),
+  λ t e h. let c = clean t 0 0 [] (omega arith) in ap (order-fault 0 0) (sym e ∙ sym (append-nil (spell t))) ∙ c .1,
+  λ t u e f. spell-one t u (e ∙ sym f),
+)

@@ -1,13 +1,17 @@
 -- The whole list spells the whole tree, and the whole tree has the tree's distance. Assumes nothing.
 use Prim.Native.Nat.{ℕ}
 use mathlib.Core.Bool.{Bool, true, false, not}
-use mathlib.Core.List.{List, [], _∷_, _++_, append-assoc}
+use mathlib.Core.List.{List, [], _∷_, _++_, map, append-assoc}
 use mathlib.Core.Path.{_≡_, refl, sym, ap, ap₂, _∙_}
 use lib.IntN.{ℤ, negℤ, negℤ-negℤ}
 use Rattle.space.specs.Pt.{Pt}
 use Rattle.tree.specs.Parts.{Parts}
+use Rattle.tree.specs.Rows.{node-symbol, node-symbol-of, entry-symbol-of, entry-kind, is-cut-kind, cut-next, whole-entries, Entries-law}
 use Rattle.tree.specs.Spell.{Symbol, solid, operator, spell}
 use Rattle.tree.specs.Tree.{Op, union, common, cut, Tree, leaf, join, turn, value, handed, joined}
+use Rattle.tree.specs.declared.node.Node.{Node}
+use Rattle.tree.specs.declared.node.NodeKind as n
+use Rattle.tree.specs.declared.node.NodeKind.{NodeKind}
 use Rattle.tree.specs.Whole.{whole, whole-list, cut-first, symbol-uncut, is-cut, uncut, flipped, Whole-law}
 
 cut-first-append : (after : Bool) (xs ys : List Symbol) → cut-first after (xs ++ ys) ≡ cut-first (cut-first after ys) xs
@@ -68,3 +72,29 @@ whole-value P p (join cut turned n a b) =
 
 pub whole-law : Whole-law
 whole-law t = (whole-spell t false, λ P p. whole-value P p t)
+
+-- ---- on rows
+
+node-symbol-uncut : (follows : Bool) (k : NodeKind) (turned : Bool) (m : ℕ) → entry-symbol-of (entry-kind k) (flipped follows turned) m ≡ symbol-uncut follows (node-symbol-of k turned m)
+node-symbol-uncut follows n.the-variants.Solid turned m = refl
+node-symbol-uncut follows n.the-variants.Union turned m = refl
+node-symbol-uncut follows n.the-variants.Common turned m = refl
+node-symbol-uncut follows n.the-variants.Cut turned m = refl
+
+cut-symbol : (k : NodeKind) (turned : Bool) (m : ℕ) (rest : List Symbol) → cut-first false (node-symbol-of k turned m ∷ rest) ≡ is-cut-kind k
+cut-symbol n.the-variants.Solid turned m rest = refl
+cut-symbol n.the-variants.Union turned m rest = refl
+cut-symbol n.the-variants.Common turned m rest = refl
+cut-symbol n.the-variants.Cut turned m rest = refl
+
+cut-rows : (nodes : List Node) → cut-first false (map node-symbol nodes) ≡ cut-next nodes
+cut-rows [] = refl
+cut-rows (row ∷ rest) = cut-symbol (row .kind) (row .turned) (row .number) (map node-symbol rest)
+
+pub entries-law : Entries-law
+unfolding whole-entries whole-list
+entries-law [] = refl
+entries-law (row ∷ rest) =
+    ap₂ (λ s l. s ∷ l)
+    (node-symbol-uncut (cut-next rest) (row .kind) (row .turned) (row .number) ∙ ap (λ c. symbol-uncut c (node-symbol row)) (sym (cut-rows rest)))
+    (entries-law rest)

@@ -1,3 +1,4 @@
+pub mod Distance
 pub mod Order
 pub mod Parts
 pub mod Rows

@@ -17,11 +17,20 @@ pub record Lawful (P : Parts) : Type 0 where
   pub ranged : (n : ℕ) → DistanceRange (P .distance n)
   pub smooth : (n : ℕ) → FilletLaw (P .radius n) (P .fillet n)
 
--- The parts that a table of solids and a table of joints give, by what one solid and one joint mean.
--- Past a table's end all is 0, which keeps the laws too.
+-- What the solid or joint with a number means, from a table of them and what one of them means. Past
+-- the table's end all is 0, which keeps the laws too.
+abbrev pub solid-distance : {S : Type 0} → (S → Pt → ℤ) → List S → ℕ → Pt → ℤ
+solid-distance dist solids n p = getD (map (λ s. dist s p) solids) n (pos 0)
+
+abbrev pub joint-radius : {J : Type 0} → (J → ℕ) → List J → ℕ → ℕ
+joint-radius radius joints n = getD (map radius joints) n 0
+
+abbrev pub joint-fillet : {J : Type 0} → (J → ℕ → ℕ) → List J → ℕ → ℕ → ℕ
+joint-fillet fillet joints n gap = getD (map (λ j. fillet j gap) joints) n 0
+
 abbrev pub parts : {S J : Type 0} → (S → Pt → ℤ) → (J → ℕ) → (J → ℕ → ℕ) → List S → List J → Parts
 parts dist radius fillet solids joints = record {
-  distance = λ n p. getD (map (λ s. dist s p) solids) n (pos 0);
-  radius = λ n. getD (map radius joints) n 0;
-  fillet = λ n gap. getD (map (λ j. fillet j gap) joints) n 0;
+  distance = solid-distance dist solids;
+  radius = joint-radius radius joints;
+  fillet = joint-fillet fillet joints;
 }

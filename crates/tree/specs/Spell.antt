@@ -1,6 +1,6 @@
 -- A tree in post-order: both operands, then the operator. Assumes nothing.
 use Prim.Native.Nat.{ℕ}
-use mathlib.Core.Bool.{Bool}
+use mathlib.Core.Bool.{Bool, true, false}
 use mathlib.Core.List.{List, [], _∷_, _++_}
 use Rattle.tree.specs.Tree.{Op, Tree, leaf, join}
 
@@ -8,6 +8,10 @@ use Rattle.tree.specs.Tree.{Op, Tree, leaf, join}
 pub data Symbol : Type 0 where
   solid : Bool → ℕ → Symbol
   operator : Op → Bool → ℕ → Symbol
+
+abbrev pub is-solid : Symbol → Bool
+is-solid (solid turned n) = true
+is-solid (operator op turned n) = false
 
 unfoldable pub spell : Tree → List Symbol
 spell (leaf turned n) = solid turned n ∷ []

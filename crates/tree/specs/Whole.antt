@@ -46,5 +46,5 @@ whole-list after (s ∷ rest) = symbol-uncut (cut-first after rest) s ∷ whole-
 -- What it is for: the whole list spells the whole tree, which has the same distance at every point.
 abbrev pub Whole-law : Type 0
 Whole-law = (t : Tree)
-  → (whole-list false (spell t) ≡ spell (whole t))
-  × ((P : Parts) (p : Pt) → value P (whole t) p ≡ value P t p)
+    → (whole-list false (spell t) ≡ spell (whole t))
+    × ((P : Parts) (p : Pt) → value P (whole t) p ≡ value P t p)

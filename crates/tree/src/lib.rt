@@ -1,7 +1,9 @@
 // The theory of scenes: trees of solids, their distance, and their post-order lists. Each function
 // answers 0; its contract is a theorem about the definitions that the code's contracts cite.
 ghost use Rattle.tree.specs.Order.{Order-law};
+ghost use Rattle.tree.specs.Rows.{Entries-law};
 ghost use Rattle.tree.specs.Whole.{Whole-law};
+
 pub mod node;
 
 // A list has no fault exactly when it spells a tree of depth 64 at most, and it spells one tree only.
@@ -14,6 +16,13 @@ pub fn order_law() -> u8
 // The whole list spells the whole tree, and the whole tree has the tree's distance at every point.
 pub fn whole_law() -> u8
     ensures { λ _. ⌜ Whole-law ⌝ }
+{
+    0
+}
+
+// The entries that a node table's rows are made into are the symbols of the whole list.
+pub fn entries_law() -> u8
+    ensures { λ _. ⌜ Entries-law ⌝ }
 {
     0
 }

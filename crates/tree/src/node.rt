@@ -18,11 +18,17 @@ pub struct Node {
     pub number: u16,
 }
 
+// The operators of a list.
+#[derive(Clone, Copy)]
+pub enum Blend {
+    Union,
+    Common,
+}
+
 #[derive(Clone, Copy)]
 pub enum EntryKind {
     Solid,
-    Union,
-    Common,
+    Operator(Blend),
 }
 
 // A row of a list that is evaluated: a node, with no cut among the kinds.

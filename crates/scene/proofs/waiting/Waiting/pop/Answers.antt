@@ -11,10 +11,13 @@ use Rattle.std.proofs.shelf.Signed.{toZ-ofZ}
 use Rattle.scene.proofs.Stacks.{popped}
 use Rattle.scene.proofs.waiting.Waiting.pop.Needs as need
 
-pub ensures-value : need.ensures-value
-ensures-value c =
+pub returns : need.returns
+returns c =
     let n = c .args .self .now .count in
     let xs = c .args .self .now .values in
     let room : n - 1 < length xs = search needs in
     let fits : SFits w32 (getD xs (n - 1) (pos 0)) = search needs in
-    popped xs n (pos 0) (c .pre) room ∙ ap (λ v. v ∷ reverse (take (n - 1) xs)) (sym (toZ-ofZ w32 _ fits))
+    record {
+      value = popped xs n (pos 0) (c .pre) room ∙ ap (λ v. v ∷ reverse (take (n - 1) xs)) (sym (toZ-ofZ w32 _ fits));
+      fewer = search needs;
+    }

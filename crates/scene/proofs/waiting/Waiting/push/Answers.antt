@@ -9,8 +9,12 @@ use Rattle.std.proofs.shelf.Signed.{toZ-ofZ}
 use Rattle.scene.proofs.Stacks.{pushed}
 use Rattle.scene.proofs.waiting.Waiting.push.Needs as need
 
-pub ensures-after : need.ensures-after
-ensures-after c =
+pub returns : need.returns
+returns c =
     let room : c .args .self .now .count < length (c .args .self .now .values) = search needs in
-    pushed (c .args .self .now .values) (c .args .self .now .count) _ room
-    ∙ ap (λ v. v ∷ reverse (take (c .args .self .now .count) (c .args .self .now .values))) (toZ-ofZ w32 (c .args .value) (c .fits .value))
+    record {
+      after =
+          pushed (c .args .self .now .values) (c .args .self .now .count) _ room
+          ∙ ap (λ v. v ∷ reverse (take (c .args .self .now .count) (c .args .self .now .values))) (toZ-ofZ w32 (c .args .value) (c .fits .value));
+      more = search needs;
+    }

@@ -1,0 +1,7 @@
+pub mod Chains
+pub mod Entries
+pub mod Faults
+pub mod Loads
+pub mod Orders
+pub mod Places
+pub mod Readings
