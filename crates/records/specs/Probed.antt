@@ -7,7 +7,7 @@ use Rattle.solids.specs.declared.probed.Probed.{Probed}
 use Rattle.records.specs.LittleEndian.{u16-le}
 use Rattle.records.specs.Point.{point-record, origin}
 
--- n centres, from place i on
+-- n centres, from place i on; a solid has eight, so the origin never stands for a missing one
 abbrev pub centres-record : ℕ → ℕ → List Point → List ℕ
 centres-record i zero cs = []
 centres-record i (suc n) cs = point-record (getD cs i origin) ++ centres-record (suc i) n cs

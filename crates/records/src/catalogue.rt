@@ -18,32 +18,19 @@ use space::point::Point;
 pub(crate) fn read_catalogue(bytes: &[u8]) -> Option<CatalogueSolid>
     ensures { λ r. ⌜ Reads catalogue-record (now (bytes .entry)) r ⌝ }
 {
-    match read_raw(bytes) {
-        Some(raw) => read_fields(raw),
-        None => None,
-    }
+    let raw = read_raw(bytes)?;
+    read_fields(raw)
 }
 
+// The solid with these fields, if they keep the rule of its kind.
 fn read_fields(raw: RawSolid) -> Option<CatalogueSolid>
     ensures { λ r. ⌜ Reads raw-of raw r ⌝ }
 {
     match raw.kind {
-        1 => match read_ball(raw) {
-            Some(s) => Some(CatalogueSolid::Ball(s)),
-            None => None,
-        },
-        2 => match read_block(raw) {
-            Some(s) => Some(CatalogueSolid::Block(s)),
-            None => None,
-        },
-        3 => match read_plane(raw) {
-            Some(s) => Some(CatalogueSolid::Plane(s)),
-            None => None,
-        },
-        4 => match read_drum(raw) {
-            Some(s) => Some(CatalogueSolid::Drum(s)),
-            None => None,
-        },
+        1 => Some(CatalogueSolid::Ball(read_ball(raw)?)),
+        2 => Some(CatalogueSolid::Block(read_block(raw)?)),
+        3 => Some(CatalogueSolid::Plane(read_plane(raw)?)),
+        4 => Some(CatalogueSolid::Drum(read_drum(raw)?)),
         _ => None,
     }
 }
@@ -61,9 +48,7 @@ fn read_ball(raw: RawSolid) -> Option<Ball>
     if raw.r > 8192 || raw.h0 != 0 || raw.h1 != 0 || raw.h2 != 0 || raw.d != 0 {
         return None;
     }
-    let Some(centre) = read_centre(raw) else {
-        return None;
-    };
+    let centre = read_centre(raw)?;
     Some(Ball {
         centre,
         radius: raw.r,
@@ -77,9 +62,7 @@ fn read_block(raw: RawSolid) -> Option<Block>
     if raw.r > 8192 || raw.h0 > 8192 || raw.h1 > 8192 || raw.h2 > 8192 || raw.d != 0 {
         return None;
     }
-    let Some(centre) = read_centre(raw) else {
-        return None;
-    };
+    let centre = read_centre(raw)?;
     Some(Block {
         centre,
         half_x: raw.h0,
@@ -133,9 +116,7 @@ fn read_drum(raw: RawSolid) -> Option<Drum>
         2 => Axis::Z,
         _ => return None,
     };
-    let Some(centre) = read_centre(raw) else {
-        return None;
-    };
+    let centre = read_centre(raw)?;
     Some(Drum {
         centre,
         radius: raw.r,

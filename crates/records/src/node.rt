@@ -4,6 +4,7 @@ ghost use Rattle.records.specs.Reads.{Reads};
 use tree::node::Node;
 use tree::node::NodeKind;
 
+// The node that the bytes are the record of, if any.
 pub(crate) fn read_node(bytes: &[u8]) -> Option<Node>
     ensures { λ r. ⌜ Reads node-record (now (bytes .entry)) r ⌝ }
 {

@@ -21,9 +21,7 @@ pub(crate) fn read_probed(bytes: &[u8]) -> Option<Probed>
     }
     let mut centres = [Point { x: 0, y: 0, z: 0 }; 8];
     for i in 0..8 {
-        let Some(centre) = point_at(bytes, 4 + 6 * i) else {
-            return None;
-        };
+        let centre = point_at(bytes, 4 + 6 * i)?;
         if i >= count as usize && !is_origin(centre) {
             return None;
         }

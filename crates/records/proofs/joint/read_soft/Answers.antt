@@ -1,6 +1,6 @@
-use borrow.Author.Needs.{needs}
-use Rattle.records.proofs.Digits.{two-u16}
+use Rattle.records.specs.Joint.{soft-fields}
 use Rattle.records.proofs.joint.read_soft.Needs as need
 
-pub returns-in-2 : need.returns-in-2
-returns-in-2 c = let all = two-u16 (c .args .bytes .now) (c .typed .bytes) (search needs) in cc
+pub returns-in-Break-form : need.returns-in-Break-form
+returns-in-Break-form c =
+    rw (c .from-residual .ensures) (λ j e. c .in-Break-form .ensures tt (soft-fields j) e)
