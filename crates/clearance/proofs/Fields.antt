@@ -10,7 +10,8 @@ use lib.Dec.{eqb, leb, lit<}
 use lib.IntN.{ℤ, pos}
 use lib.ListN.{length, getD}
 use Rattle.clearance.proofs.Numbers.{number-none, coordinate-minus, coordinate-plain}
-use Rattle.clearance.specs.Lines.{onto-first, fields, is-digit, all-digits, number, signed-by, coordinate, distance-at, distance-call, call-from, call-of, SplitsField}
+use Rattle.clearance.specs.Lines.{onto-first, fields, is-digit, all-digits, number, signed-by, coordinate, distance-at, distance-call, call-from, call-of}
+use Rattle.clearance.specs.Splits.{SplitsField}
 use Rattle.clearance.specs.declared.call.Call.{Call}
 use Rattle.std.proofs.shelf.Patterns.{SplitAt, split-parts}
 use Rattle.std.proofs.shelf.Tests.{cond-false, ne-eqb, cases-eq, and-right, and-left, both-ways}
