@@ -54,7 +54,7 @@ distance-at (Some x) None z = None
 distance-at (Some x) (Some y) None = None
 distance-at (Some x) (Some y) (Some z) = Some (Distance x y z)
 
--- the distance at a point takes three coordinates
+-- the distance takes three coordinates
 abbrev pub distance-call : List (List ℕ) → Option Call
 distance-call [] = None
 distance-call (x ∷ []) = None
@@ -62,7 +62,7 @@ distance-call (x ∷ (y ∷ [])) = None
 distance-call (x ∷ (y ∷ (z ∷ []))) = distance-at (coordinate x) (coordinate y) (coordinate z)
 distance-call (x ∷ (y ∷ (z ∷ (w ∷ more)))) = None
 
--- the first field of a line is the letter of its call
+-- the first field of a line is the letter of its call: `s` (115) asks for the distance at a point
 abbrev pub call-named : List ℕ → List (List ℕ) → Option Call
 call-named [] arguments = None
 call-named (b ∷ []) arguments = cond (eqb b 115) (distance-call arguments) None
