@@ -1,8 +1,8 @@
 -- The first character of a line, as `chars` gives it, and the call that it picks. Assumes nothing.
 use Prim.Native.Nat.{ℕ, _<_}
 use native.Mathlib.Omega.{arith}
-use mathlib.Core.List.{List, [], _∷_, _++_}
-use mathlib.Core.Path.{_≡_, refl, sym, ap, _∙_}
+use mathlib.Core.List.{List, _∷_, [], _++_}
+use mathlib.Core.Path.{_≡_, sym, ap, _∙_}
 use lib.ListN.{length, getD}
 use lib.Utf8.{encode}
 use Rattle.std.proofs.shelf.Ascii.{encode-ascii}
@@ -12,7 +12,7 @@ use Rattle.std.specs.declared.option.Option.{Option}
 use Rattle.std.specs.declared.option.Option.the-variants.{None}
 use Rattle.clearance.specs.Lines.{fields, distance-call, call-of}
 use Rattle.clearance.specs.declared.call.Call.{Call}
-use Rattle.clearance.proofs.Fields.{call-by-letter, other-letter}
+use Rattle.clearance.proofs.Calls.{call-by-letter, other-letter}
 
 pub distance-letter : (line whole rest others : List ℕ) (b c : ℕ) (r : Option Call) → whole ≡ line → whole ≡ encode c ++ rest → c ≡ 115 → fields line ≡ (b ∷ []) ∷ fields others → r ≡ distance-call (fields others) → r ≡ call-of line
 distance-letter line whole rest others b c r same e s first read =

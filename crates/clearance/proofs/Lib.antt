@@ -1,3 +1,4 @@
+pub mod Calls
 pub mod Fields
 pub mod Letters
 pub mod Numbers

@@ -1,5 +1,5 @@
--- What `number` comes to. Assumes nothing.
-use Prim.Native.Nat.{ℕ, _+_, _*_, _^_, _≤_, _<_}
+-- What `number` and `coordinate` come to. Assumes nothing.
+use Prim.Native.Nat.{ℕ, _^_, _≤_, _<_}
 use native.Mathlib.Omega.{arith}
 use borrow.Author.Needs.{needs}
 use mathlib.Core.Bool.{Bool, true, false, cond, _&&_}
@@ -7,34 +7,33 @@ use mathlib.Core.List.{List, [], _∷_}
 use mathlib.Core.Logic.{⊎-elim}
 use mathlib.Core.Path.{_≡_, refl, sym, ap, _∙_}
 use lib.Dec.{leb, eqb}
+use lib.IntN.{pos, negℤ}
 use lib.ListN.{length, getD}
-use lib.IntN.{ℤ, pos, negℤ}
 use Rattle.clearance.specs.Lines.{all-digits, decimal-after, is-number, number, signed-by, coordinate}
 use Rattle.std.proofs.shelf.Numerals.{Numerals, numerals-by-fold, parse-plain, value-short, not-in-digits}
 use Rattle.std.proofs.shelf.Tests.{leb-true, le-leb, and-parts, and-from, cases-bool, cond-true, cond-false, ne-eqb}
 use Rattle.std.specs.Numbers.{Converted}
 use Rattle.std.specs.Reads.{ReadsUnsigned}
 use Rattle.std.specs.Results.{okPart}
-use Rattle.std.specs.declared.option.Option.{Option}
 use Rattle.std.specs.declared.option.Option.the-variants.{Some, None}
 use Rattle.std.specs.declared.result.Result.{Result}
 use Rattle.std.specs.declared.result.Result.the-variants.{Ok, Err}
 
 -- `all-digits` and `decimal-after 0` are what `parse` reads
-pub own : Numerals (λ ds. all-digits ds ≡ true) (decimal-after 0)
+own : Numerals (λ ds. all-digits ds ≡ true) (decimal-after 0)
 own = numerals-by-fold _ (search needs) decimal-after (search needs)
 
 -- the test of `number`, as facts
 abbrev pub IsNumber : List ℕ → Type 0
 IsNumber field = (1 ≤ length field) × (length field ≤ 5) × (all-digits field ≡ true)
 
-pub number-parts : (field : List ℕ) → is-number field ≡ true → IsNumber field
+number-parts : (field : List ℕ) → is-number field ≡ true → IsNumber field
 number-parts field e =
     let some = and-parts (leb 1 (length field)) (leb (length field) 5 && all-digits field) e in
     let short = and-parts (leb (length field) 5) (all-digits field) (some .1) in
     (leb-true 1 (length field) (some .0), leb-true (length field) 5 (short .0), short .1)
 
-pub number-some : (field : List ℕ) → IsNumber field → number field ≡ Some (decimal-after 0 field)
+number-some : (field : List ℕ) → IsNumber field → number field ≡ Some (decimal-after 0 field)
 unfolding number
 number-some field h =
     let short = and-from (leb (length field) 5) (all-digits field) (le-leb (length field) 5 (h .1)) (h .2) in
@@ -47,7 +46,7 @@ number-none field refused =
     cond-false (is-number field) _ _ (⊎-elim not-so (λ e. e) (cases-bool (is-number field)))
 
 -- what a number's field is
-pub number-is : (field : List ℕ) (n : ℕ) → number field ≡ Some n → IsNumber field × (n ≡ decimal-after 0 field)
+number-is : (field : List ℕ) (n : ℕ) → number field ≡ Some n → IsNumber field × (n ≡ decimal-after 0 field)
 unfolding number
 number-is field n = split (is-number field) refl
   where
@@ -60,7 +59,7 @@ number-small field n e =
     let h = number-is field n e in
     omega (arith, value-short own field 5 (h .0 .2) (h .0 .1), h .1)
 
--- what is left of a short text without a plus
+-- what `parse` makes of a short text without a plus
 pub parsed : {E : Type 0} (field : List ℕ) (r : Result ℕ E) → ReadsUnsigned 32 10 field r → (getD field 0 0 ≡ 43 → ⊥) → length field ≤ 5 → okPart r ≡ number field
 parsed field r h plain short = by-result r (parse-plain own 32 field r h plain)
   where

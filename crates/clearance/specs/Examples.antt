@@ -1,14 +1,13 @@
 -- Solids, joints and a scene that figures were worked out for by hand. Assumes nothing.
 use Prim.Native.Nat.{ℕ}
 use mathlib.Core.Bool.{false}
-use mathlib.Core.List.{List, [], _∷_, map}
+use mathlib.Core.List.{List, [], _∷_}
 use mathlib.Core.Path.{refl}
 use lib.Dec.{T, leb, lit≤, lit<}
 use lib.IntN.{pos}
 use Rattle.joints.specs.House.{house-radius, house-fillet}
 use Rattle.joints.specs.declared.house.HouseJoint.{HouseJoint}
 use Rattle.joints.specs.declared.house.HouseJoint.the-variants.{Sharp, Rounded}
-use Rattle.joints.specs.declared.radius.Radius.{Radius}
 use Rattle.joints.specs.declared.soft.SoftJoint.{SoftJoint}
 use Rattle.solids.specs.Catalogue.{catalogue-distance}
 use Rattle.solids.specs.declared.catalogue.Axis.the-variants.{Z}
@@ -18,14 +17,12 @@ use Rattle.solids.specs.declared.probed.Probed.{Probed}
 use Rattle.space.specs.Pt.{Pt}
 use Rattle.space.specs.declared.point.Point.{Point}
 use Rattle.tree.specs.Parts.{Parts, parts}
-use Rattle.tree.specs.Rows.{node-symbol}
-use Rattle.tree.specs.Spell.{Symbol}
 use Rattle.tree.specs.declared.node.Node.{Node}
 use Rattle.tree.specs.declared.node.NodeKind as kind
 
--- the place with these coordinates, and the `Point` there
-abbrev pub place : ℕ → ℕ → ℕ → Pt
-place x y z = record { x = pos x; y = pos y; z = pos z }
+-- the point with these coordinates, as the rules see it, and as the code holds it
+abbrev pub pt : ℕ → ℕ → ℕ → Pt
+pt x y z = record { x = pos x; y = pos y; z = pos z }
 
 abbrev pub point : (x y z : ℕ) → T (leb x 8191) → T (leb y 8191) → T (leb z 8191) → Point
 point x y z x-low y-low z-low = record {

@@ -2,14 +2,11 @@
 use Prim.Native.Nat.{ℕ, _+_, _-_, _*_}
 use mathlib.Core.Bool.{Bool, true, false, cond, _&&_}
 use mathlib.Core.List.{List, [], _∷_}
-use mathlib.Core.Path.{_≡_}
-use denote.Ref.{RefT}
 use lib.Dec.{eqb, leb}
 use lib.IntN.{ℤ, pos, negℤ}
 use lib.ListN.{length}
 use Rattle.clearance.specs.declared.call.Call.{Call}
 use Rattle.clearance.specs.declared.call.Call.the-variants.{Distance}
-use Rattle.std.specs.Options.{Cases}
 use Rattle.std.specs.declared.option.Option.{Option}
 use Rattle.std.specs.declared.option.Option.the-variants.{Some, None}
 
@@ -21,10 +18,6 @@ onto-first b (field ∷ more) = (b ∷ field) ∷ more
 unfoldable pub fields : List ℕ → List (List ℕ)
 fields [] = [] ∷ []
 fields (b ∷ rest) = cond (eqb b 32) ([] ∷ fields rest) (onto-first b (fields rest))
-
--- where a text has more than one field, a split gives its first field and what follows the space
-abbrev pub SplitsField : List ℕ → Option (RefT (List ℕ) × RefT (List ℕ)) → Type 0
-SplitsField bs r = Cases r (fields bs ≡ bs ∷ []) (λ x. fields bs ≡ x .0 .now ∷ fields (x .1 .now))
 
 abbrev pub is-digit : ℕ → Bool
 is-digit b = leb 48 b && leb b 57
@@ -61,7 +54,7 @@ distance-at (Some x) None z = None
 distance-at (Some x) (Some y) None = None
 distance-at (Some x) (Some y) (Some z) = Some (Distance x y z)
 
--- the distance at a point takes three coordinates
+-- the distance takes three coordinates
 abbrev pub distance-call : List (List ℕ) → Option Call
 distance-call [] = None
 distance-call (x ∷ []) = None
@@ -69,7 +62,7 @@ distance-call (x ∷ (y ∷ [])) = None
 distance-call (x ∷ (y ∷ (z ∷ []))) = distance-at (coordinate x) (coordinate y) (coordinate z)
 distance-call (x ∷ (y ∷ (z ∷ (w ∷ more)))) = None
 
--- the first field of a line is the letter of its call
+-- the first field of a line is the letter of its call: `s` (115) asks for the distance at a point
 abbrev pub call-named : List ℕ → List (List ℕ) → Option Call
 call-named [] arguments = None
 call-named (b ∷ []) arguments = cond (eqb b 115) (distance-call arguments) None
@@ -82,7 +75,3 @@ call-from (name ∷ arguments) = call-named name arguments
 -- the call of a line, if it is one
 abbrev pub call-of : List ℕ → Option Call
 call-of line = call-from (fields line)
-
--- the text after a name of one letter and its space; a line without is no call
-abbrev pub AfterLetter : List ℕ → Option (RefT (List ℕ)) → Type 0
-AfterLetter line r = Cases r (call-of line ≡ None) (λ rest. (b : ℕ) × (fields line ≡ (b ∷ []) ∷ fields (rest .now)))

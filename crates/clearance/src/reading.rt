@@ -1,6 +1,7 @@
 // Reading a line of a script.
 ghost use mathlib.Core.Path.{_≡_};
-ghost use Rattle.clearance.specs.Lines.{number, coordinate, fields, distance-call, call-of, SplitsField, AfterLetter};
+ghost use Rattle.clearance.specs.Lines.{number, coordinate, fields, distance-call, call-of};
+ghost use Rattle.clearance.specs.Splits.{SplitsField, SplitsLetter};
 use crate::call::Call;
 
 // A field as a number: one to five digits.
@@ -55,7 +56,7 @@ fn read_point(text: &str) -> Option<Call>
 
 // What follows a name of one letter and its space.
 fn after_letter(line: &str) -> Option<&str>
-    ensures { λ r. ⌜ AfterLetter (now (line .entry)) r ⌝ }
+    ensures { λ r. ⌜ SplitsLetter (now (line .entry)) r ⌝ }
 {
     let (name, rest) = split_field(line)?;
     if name.len() == 1 { Some(rest) } else { None }

@@ -5,13 +5,13 @@ use mir.Val.{SFits}
 use Rattle.std.proofs.shelf.Signed.{toZ-ofZ}
 use Rattle.std.specs.declared.option.Option.the-variants.{Some}
 use Rattle.clearance.specs.declared.call.Call.the-variants.{Distance}
-use Rattle.clearance.proofs.Fields.{call-of-text, two-of-text}
+use Rattle.clearance.proofs.Calls.{call-of-text, no-third}
 use Rattle.clearance.proofs.reading.read_point.Needs as need
 
 pub returns-in-Break-read-coordinate-3 : need.returns-in-Break-read-coordinate-3
 returns-in-Break-read-coordinate-3 c =
     c .from-residual-in-Break-read-coordinate-3 .ensures
-    ∙ two-of-text (c .args .text .now) (c .in-Continue-x .x .now) (c .in-Continue-x .rest .now) (c .in-Continue-y .y .now) (c .in-Continue-y .z .now)
+    ∙ no-third (c .args .text .now) (c .in-Continue-x .x .now) (c .in-Continue-x .rest .now) (c .in-Continue-y .y .now) (c .in-Continue-y .z .now)
     (c .in-Continue-x .ensures tt) (c .in-Continue-y .ensures tt) (c .in-Break-read-coordinate-3 .ensures tt)
 
 pub returns : need.returns
