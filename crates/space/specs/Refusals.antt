@@ -3,7 +3,7 @@ use Prim.Native.Nat.{ℕ}
 use Rattle.space.specs.declared.refusal.Layer.{Layer}
 use Rattle.space.specs.declared.refusal.Layer.the-variants.{File, Record, Tree, Point}
 use Rattle.space.specs.declared.refusal.Refusal.{Refusal}
-use Rattle.space.specs.declared.refusal.Refusal.the-variants.{Short, Make, Count, Offset, Length, Room, Solid, Joint, Node, Order, Unused, Outside}
+use Rattle.space.specs.declared.refusal.Refusal.the-variants.{Short, Make, Count, Offset, Length, Room, Solid, Joint, Node, Order, Unused, Outside, Output}
 use Rattle.space.specs.declared.refusal.Table.{Table}
 use Rattle.space.specs.declared.refusal.Table.the-variants.{Solids, Joints, Nodes, List}
 
@@ -20,6 +20,7 @@ number (Node n) = 9
 number (Order n) = 10
 number (Unused n) = 11
 number (Outside n) = 12
+number Output = 19
 
 abbrev pub layer : Refusal → Layer
 layer Short = File
@@ -34,6 +35,7 @@ layer (Node n) = Record
 layer (Order n) = Tree
 layer (Unused n) = Tree
 layer (Outside n) = Point
+layer Output = File
 
 -- tables go by their order in the file; the list, which no file has, comes last
 abbrev pub table-place : Table → ℕ
@@ -55,3 +57,4 @@ place (Node n) = n
 place (Order n) = n
 place (Unused n) = n
 place (Outside n) = n
+place Output = 0

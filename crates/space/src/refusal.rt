@@ -44,4 +44,6 @@ pub enum Refusal {
     Unused(u16),
     // a coordinate is outside its range; its place, from 1
     Outside(u16),
+    // an output is shorter than the file that has to go into it
+    Output,
 }

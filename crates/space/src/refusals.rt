@@ -22,6 +22,7 @@ impl Refusal {
             Refusal::Order(_) => 10,
             Refusal::Unused(_) => 11,
             Refusal::Outside(_) => 12,
+            Refusal::Output => 19,
         }
     }
 
@@ -34,7 +35,8 @@ impl Refusal {
             | Refusal::Count(_)
             | Refusal::Offset(_)
             | Refusal::Length
-            | Refusal::Room(_) => Layer::File,
+            | Refusal::Room(_)
+            | Refusal::Output => Layer::File,
             Refusal::Solid(_) | Refusal::Joint(_) | Refusal::Node(_) => Layer::Record,
             Refusal::Order(_) | Refusal::Unused(_) => Layer::Tree,
             Refusal::Outside(_) => Layer::Point,
@@ -45,7 +47,7 @@ impl Refusal {
         ensures { λ r. ⌜ r ≡ place self ⌝ }
     {
         match self {
-            Refusal::Short | Refusal::Make | Refusal::Length => 0,
+            Refusal::Short | Refusal::Make | Refusal::Length | Refusal::Output => 0,
             Refusal::Count(t) | Refusal::Offset(t) | Refusal::Room(t) => t.place(),
             Refusal::Solid(n)
             | Refusal::Joint(n)
