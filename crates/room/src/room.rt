@@ -1,0 +1,83 @@
+// Room for a scene of a make.
+ghost use mathlib.Core.Path.{_≡_};
+ghost use lib.ListN.{length};
+ghost use Rattle.std.specs.Of.Vec.{vec-len};
+ghost use Rattle.std.specs.Vec.{made};
+use joints::house::HouseJoint;
+use joints::radius::Radius;
+use joints::soft::SoftJoint;
+use scenefile::tables::Tables;
+use solids::catalogue::Ball;
+use solids::catalogue::CatalogueSolid;
+use solids::probed::Probed;
+use space::point::Point;
+use std::alloc::AllocError;
+use std::alloc::Global;
+use tree::node::Entry;
+use tree::node::EntryKind;
+use tree::node::Node;
+use tree::node::NodeKind;
+
+#[derive(Drop)]
+pub struct Room<S, J> {
+    solids: Vec<S>,
+    joints: Vec<J>,
+    nodes: Vec<Node>,
+    list: Vec<Entry>,
+    ghost all_solids: { vec-len solids ≡ 512 },
+    ghost all_joints: { vec-len joints ≡ 511 },
+    ghost all_nodes: { vec-len nodes ≡ 1023 },
+    ghost all_list: { vec-len list ≡ 1023 },
+}
+
+// A table of n equal rows.
+fn table<T: Copy>(heap: Global, row: T, n: usize) -> Result<Vec<T>, AllocError>
+    ensures { λ r. ⌜ made r (λ v. vec-len v ≡ n) ⌝ }
+{
+    let mut rows = Vec::with_capacity(heap, n)?;
+    for _ in 0..n {
+        rows.push(row)?;
+    }
+    Ok(rows)
+}
+
+impl<S: Copy, J: Copy> Room<S, J> {
+    // Room that begins filled with these rows.
+    pub fn new(heap: Global, solid: S, joint: J) -> Result<Self, AllocError> {
+        let node = Node {
+            kind: NodeKind::Solid,
+            turned: false,
+            number: 0,
+        };
+        let entry = Entry {
+            kind: EntryKind::Solid,
+            turned: false,
+            number: 0,
+        };
+        let solids = table(heap, solid, 512)?;
+        let joints = table(heap, joint, 511)?;
+        let nodes = table(heap, node, 1023)?;
+        let list = table(heap, entry, 1023)?;
+        Ok(Room {
+            solids,
+            joints,
+            nodes,
+            list,
+        })
+    }
+
+    // The tables, lent for one scene.
+    pub fn tables(&mut self) -> Tables<'_, S, J>
+        ensures solids { λ r. ⌜ length (now (r .solids)) ≡ 512 ⌝ }
+        ensures joints { λ r. ⌜ length (now (r .joints)) ≡ 511 ⌝ }
+        ensures nodes { λ r. ⌜ length (now (r .nodes)) ≡ 1023 ⌝ }
+        ensures list { λ r. ⌜ length (now (r .list)) ≡ 1023 ⌝ }
+    {
+        Tables {
+            solids: self.solids.as_mut_slice(),
+            joints: self.joints.as_mut_slice(),
+            nodes: self.nodes.as_mut_slice(),
+            list: self.list.as_mut_slice(),
+        }
+    }
+}

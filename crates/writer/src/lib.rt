@@ -1,0 +1,4 @@
+// Writing a scene back as a file.
+mod header;
+mod rows;
+pub mod write;
