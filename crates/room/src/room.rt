@@ -1,7 +1,6 @@
 // Room for a scene of a make.
 ghost use mathlib.Core.Path.{_≡_};
-ghost use lib.ListN.{length};
-ghost use Rattle.std.specs.Of.Vec.{vec-len};
+ghost use Rattle.std.specs.Of.Vec.{vec-items, vec-len};
 ghost use Rattle.std.specs.Vec.{made};
 use joints::house::HouseJoint;
 use joints::radius::Radius;
@@ -24,10 +23,6 @@ pub struct Room<S, J> {
     joints: Vec<J>,
     nodes: Vec<Node>,
     list: Vec<Entry>,
-    ghost all_solids: { vec-len solids ≡ 512 },
-    ghost all_joints: { vec-len joints ≡ 511 },
-    ghost all_nodes: { vec-len nodes ≡ 1023 },
-    ghost all_list: { vec-len list ≡ 1023 },
 }
 
 // A table of n equal rows.
@@ -43,7 +38,9 @@ fn table<T: Copy>(heap: Global, row: T, n: usize) -> Result<Vec<T>, AllocError>
 
 impl<S: Copy, J: Copy> Room<S, J> {
     // Room that begins filled with these rows.
-    pub fn new(heap: Global, solid: S, joint: J) -> Result<Self, AllocError> {
+    pub fn new(heap: Global, solid: S, joint: J) -> Result<Self, AllocError>
+        ensures { λ r. ⌜ made r (λ m. (vec-len (m .solids) ≡ 512) × (vec-len (m .joints) ≡ 511) × (vec-len (m .nodes) ≡ 1023) × (vec-len (m .list) ≡ 1023)) ⌝ }
+    {
         let node = Node {
             kind: NodeKind::Solid,
             turned: false,
@@ -68,10 +65,10 @@ impl<S: Copy, J: Copy> Room<S, J> {
 
     // The tables, lent for one scene.
     pub fn tables(&mut self) -> Tables<'_, S, J>
-        ensures solids { λ r. ⌜ length (now (r .solids)) ≡ 512 ⌝ }
-        ensures joints { λ r. ⌜ length (now (r .joints)) ≡ 511 ⌝ }
-        ensures nodes { λ r. ⌜ length (now (r .nodes)) ≡ 1023 ⌝ }
-        ensures list { λ r. ⌜ length (now (r .list)) ≡ 1023 ⌝ }
+        ensures solids { λ r. ⌜ now (r .solids) ≡ vec-items (now (self .entry) .solids) ⌝ }
+        ensures joints { λ r. ⌜ now (r .joints) ≡ vec-items (now (self .entry) .joints) ⌝ }
+        ensures nodes { λ r. ⌜ now (r .nodes) ≡ vec-items (now (self .entry) .nodes) ⌝ }
+        ensures list { λ r. ⌜ now (r .list) ≡ vec-items (now (self .entry) .list) ⌝ }
     {
         Tables {
             solids: self.solids.as_mut_slice(),

@@ -3,4 +3,4 @@ use Rattle.std.specs.Of.Vec.{vec-len}
 use Rattle.room.proofs.room.table.Given as given
 
 abbrev pub Inv-loop : given.InvT-loop
-Inv-loop l = vec-len (l .rows) ≡ ?
+Inv-loop g l = vec-len (l .rows) ≡ l .counter
