@@ -3,7 +3,7 @@ use Prim.Native.Nat.{ℕ, _+_, _*_, _≤_}
 use native.Mathlib.Omega.{arith}
 use mathlib.Core.Bool.{true}
 use mathlib.Core.List.{List, [], _∷_, _++_, append-nil, map}
-use mathlib.Core.Path.{_≡_, refl, sym, ap, ap₂, subst, subst₂, _∙_}
+use mathlib.Core.Path.{_≡_, refl, sym, ap, ap₂, subst, _∙_}
 use lib.ListN.{length, drop, length-append}
 use Rattle.records.specs.Node.{node-record}
 use Rattle.roundtrip.proofs.Headers.{Header-fine, no-fault}
@@ -18,7 +18,7 @@ use Rattle.scenefile.proofs.Chains.{same-nodes}
 use Rattle.scenefile.specs.Checks.{Tree-fine, solid-rows, joint-rows, node-rows}
 use Rattle.scenefile.specs.Header.{count, joints-start, nodes-start, file-end}
 use Rattle.scenefile.specs.Load.{Scene-of}
-use Rattle.scenefile.specs.Rows.{row, rows}
+use Rattle.scenefile.specs.Rows.{rows}
 use Rattle.scenefile.specs.declared.counts.Rooms.{Rooms}
 use Rattle.space.specs.declared.refusal.Table.the-variants.{Solids, Joints, Nodes}
 use Rattle.tree.specs.Rows.{node-symbol}

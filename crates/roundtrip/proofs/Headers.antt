@@ -1,10 +1,10 @@
 -- A header without a fault, by what each test finds. Assumes nothing.
 use Prim.Native.Nat.{ℕ, _≤_}
 use native.Mathlib.Omega.{arith}
-use mathlib.Core.Bool.{Bool, true, false, cond, not, _&&_}
+use mathlib.Core.Bool.{Bool, true, false, cond, not}
 use mathlib.Core.List.{List, [], _∷_, _++_}
-use mathlib.Core.Path.{_≡_, refl, sym, ap, _∙_}
-use lib.Dec.{eqb, leb, ltb}
+use mathlib.Core.Path.{_≡_, refl, ap, _∙_}
+use lib.Dec.{eqb, leb}
 use lib.ListN.{length}
 use Rattle.roundtrip.specs.RoundTrip.{Room-for}
 use Rattle.scenefile.specs.Header.{first-fault, header-fault, count-faults, layout-faults, room-faults, make-of, count, solids-offset, joints-offset, nodes-offset, solids-start, joints-start, nodes-start, file-end, from-to}
@@ -12,7 +12,6 @@ use Rattle.scenefile.specs.declared.counts.Rooms.{Rooms}
 use Rattle.space.specs.declared.refusal.Refusal.{Refusal}
 use Rattle.space.specs.declared.refusal.Table.the-variants.{Solids, Joints, Nodes}
 use Rattle.std.proofs.shelf.Tests.{not-false, not-from-true, ltb-false, le-ltb, leb-true, le-leb, eqb-true, eq-eqb, and-parts, and-from}
-use Rattle.std.specs.declared.option.Option.{Option}
 use Rattle.std.specs.declared.option.Option.the-variants.{Some, None}
 use Rattle.std.specs.shelf.Lists.{All}
 

@@ -1,10 +1,10 @@
 -- A scene whose nodes are a tree is not refused. Assumes nothing.
 use Prim.Native.Nat.{ℕ, zero, suc, _≤_, _<_}
 use native.Mathlib.Omega.{arith}
-use mathlib.Core.Bool.{Bool, true, false, not}
+use mathlib.Core.Bool.{true, not}
 use mathlib.Core.List.{List, [], _∷_, map}
 use mathlib.Core.Logic.{_⊎_, inl, inr}
-use mathlib.Core.Path.{_≡_, refl, sym, ap, subst, _∙_}
+use mathlib.Core.Path.{_≡_, sym, ap, subst, _∙_}
 use lib.ListN.{length, getD, length-map}
 use Rattle.records.specs.Node.{node-record}
 use Rattle.scene.specs.Lists.{named, all-named}
@@ -13,7 +13,7 @@ use Rattle.scenefile.proofs.Chains.{same-nodes, header-pass}
 use Rattle.scenefile.specs.Checks.{Refused, Tree-fine, nodes-check, order-check, unused-check}
 use Rattle.scenefile.specs.Header.{count, joints-start, nodes-start}
 use Rattle.scenefile.specs.Load.{Scene-of}
-use Rattle.scenefile.specs.Rows.{row, Nobodys}
+use Rattle.scenefile.specs.Rows.{row}
 use Rattle.scenefile.specs.declared.counts.Rooms.{Rooms}
 use Rattle.space.specs.declared.refusal.Refusal.{Refusal}
 use Rattle.space.specs.declared.refusal.Table.the-variants.{Solids, Joints, Nodes}
@@ -23,7 +23,7 @@ use Rattle.std.proofs.shelf.Lists.{getD-map}
 use Rattle.std.proofs.shelf.Tests.{and-parts, both-ways, cases-lt}
 use Rattle.std.specs.Iters.{counting}
 use Rattle.std.specs.Options.{isSome}
-use Rattle.std.specs.declared.option.Option.the-variants.{Some, None}
+use Rattle.std.specs.declared.option.Option.the-variants.{Some}
 use Rattle.std.specs.shelf.Lists.{All}
 use Rattle.tree.specs.Order.{order-fault, in-order}
 use Rattle.tree.specs.Rows.{node-symbol}
