@@ -1,8 +1,7 @@
 -- An accepted file, read and written again. Assumes nothing.
 use Prim.Native.Nat.{ℕ, _+_, _*_, _<_}
-use native.Mathlib.Omega.{arith}
 use mathlib.Core.List.{List, _++_, map}
-use mathlib.Core.Path.{_≡_, refl, sym, ap, ap₂, _∙_}
+use mathlib.Core.Path.{_≡_, sym, ap, ap₂, _∙_}
 use lib.ListN.{length, take, drop, getD, length-map}
 use Rattle.records.specs.LittleEndian.{u16-le, u32-le}
 use Rattle.records.specs.Node.{node-record}

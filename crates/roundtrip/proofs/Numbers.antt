@@ -2,11 +2,13 @@
 use Prim.Native.Nat.{ℕ, _+_, _*_, _/_, _%_, _≤_, _<_}
 use native.Mathlib.Omega.{arith}
 use mathlib.Core.List.{List, [], _∷_, _++_, map}
-use mathlib.Core.Path.{_≡_, refl, sym, ap, ap₂, _∙_}
+use mathlib.Core.Path.{_≡_, sym, _∙_}
 use lib.ListN.{length, take, getD}
 use lib.Seq.{getD-take, length-take-le}
 use Rattle.records.specs.LittleEndian.{u16-le, u32-le}
-use Rattle.scenefile.specs.Header.{u16-at, u32-at}
+use Rattle.roundtrip.specs.Bytes.{header-bytes}
+use Rattle.scenefile.specs.Header.{u16-at, u32-at, make-of, count, joints-offset, nodes-offset}
+use Rattle.space.specs.declared.refusal.Table.the-variants.{Solids, Joints, Nodes}
 use Rattle.std.specs.Iters.{counting}
 use Rattle.std.proofs.shelf.Counted.{fill-by-all}
 
@@ -40,3 +42,36 @@ numbers-again bytes long small =
     let four = λ (i j k l : ℕ). u32-again (at i) (at j) (at k) (at l) (small i) (small j) (small k) (small l) in
     (λ i. two 0 1 i ++ two 2 3 i ++ two 4 5 i ++ two 6 7 i ++ four 8 9 10 11 i ++ four 12 13 14 15 i ++ four 16 17 18 19 i)
     ∙ sym (front bytes 20 long)
+
+-- a number that is written, read again
+u16-back : (n : ℕ) → n % 256 + n / 256 * 256 ≡ n
+u16-back n = omega arith
+
+u32-back : (n : ℕ) → n % 256 + n / 256 % 256 * 256 + n / 65536 % 256 * 65536 + n / 16777216 * 16777216 ≡ n
+u32-back n =
+    let past-two : n / 65536 ≡ n / 256 / 256 = omega arith in
+    let past-three : n / 16777216 ≡ n / 65536 / 256 = omega arith in
+    omega arith
+
+-- the numbers of a header, read again
+module _ (make size solids joints nodes : ℕ) (rest : List ℕ) where
+  abbrev bytes : List ℕ
+  bytes = header-bytes make size solids joints nodes ++ rest
+
+  pub make-back : make-of bytes ≡ make
+  make-back = u16-back make
+
+  pub solids-back : count Solids bytes ≡ solids
+  solids-back = u16-back solids
+
+  pub joints-back : count Joints bytes ≡ joints
+  joints-back = u16-back joints
+
+  pub nodes-back : count Nodes bytes ≡ nodes
+  nodes-back = u16-back nodes
+
+  pub joints-offset-back : joints-offset bytes ≡ 20 + size * solids
+  joints-offset-back = u32-back (20 + size * solids)
+
+  pub nodes-offset-back : nodes-offset bytes ≡ 20 + size * solids + 4 * joints
+  nodes-offset-back = u32-back (20 + size * solids + 4 * joints)
