@@ -38,6 +38,9 @@ pub trait Record: Sized {
 
     law sized: { (x : Self) → length (written x) ≡ size };
 
+    // two values with one record are one value
+    law apart: { (x y : Self) → written x ≡ written y → x ≡ y };
+
     // lengths of tables do not wrap
     law short: { size ≤ 64 };
 
