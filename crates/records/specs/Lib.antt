@@ -5,5 +5,6 @@ pub mod LittleEndian
 pub mod Node
 pub mod Point
 pub mod Probed
+pub mod Put
 pub mod Raw
 pub mod Reads

@@ -4,6 +4,7 @@ ghost use mathlib.Core.Path.{_≡_};
 ghost use lib.ListN.{length};
 ghost use Rattle.records.specs.Elements.{elements};
 ghost use Rattle.records.specs.LittleEndian.{u16-le, i16-le, i32-le};
+ghost use Rattle.records.specs.Put.{put};
 
 pub(crate) fn u16_at(bytes: &[u8], i: usize) -> u16
     requires { ⌜ i + 2 ≤ length (now bytes) ⌝ }
@@ -24,4 +25,13 @@ pub(crate) fn i32_at(bytes: &[u8], i: usize) -> i32
     ensures { λ r. ⌜ i32-le r ≡ elements i 4 (now (bytes .entry)) ⌝ }
 {
     i32::from_le_bytes([bytes[i], bytes[i + 1], bytes[i + 2], bytes[i + 3]])
+}
+
+pub(crate) fn put_bytes(bytes: &[u8], out: &mut [u8])
+    ensures { λ _. ⌜ now (out .exit) ≡ put (now (bytes .entry)) (now (out .entry)) ⌝ }
+{
+    let n = bytes.len();
+    if n <= out.len() {
+        out[0..n].copy_from_slice(bytes);
+    }
 }

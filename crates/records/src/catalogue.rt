@@ -2,10 +2,11 @@
 ghost use Prim.Native.Nat.{_+_, _*_, _-_, _<_, _≤_};
 ghost use mathlib.Core.Path.{_≡_};
 ghost use Rattle.space.specs.At.{at};
-ghost use Rattle.records.specs.Catalogue.{ball-fields, block-fields, plane-fields, drum-fields, centre-field, raw-of, catalogue-record};
+ghost use Rattle.records.specs.Catalogue.{axis-number, ball-fields, block-fields, plane-fields, drum-fields, centre-field, raw-of, catalogue-record};
 ghost use Rattle.records.specs.Reads.{Reads};
 use crate::point::point;
 use crate::raw::RawSolid;
+use crate::raw::raw_bytes;
 use crate::raw::read_raw;
 use solids::catalogue::Axis;
 use solids::catalogue::Ball;
@@ -123,4 +124,71 @@ fn read_drum(raw: RawSolid) -> Option<Drum>
         half_height: raw.h0,
         axis,
     })
+}
+
+pub(crate) fn catalogue_bytes(solid: CatalogueSolid) -> [u8; 20]
+    ensures { λ r. ⌜ r ≡ catalogue-record solid ⌝ }
+{
+    raw_bytes(raw_of(solid))
+}
+
+fn raw_of(solid: CatalogueSolid) -> RawSolid
+    ensures { λ r. ⌜ r ≡ raw-of solid ⌝ }
+{
+    match solid {
+        CatalogueSolid::Ball(s) => RawSolid {
+            kind: 1,
+            r: s.radius,
+            x: s.centre.x,
+            y: s.centre.y,
+            z: s.centre.z,
+            h0: 0,
+            h1: 0,
+            h2: 0,
+            d: 0,
+        },
+        CatalogueSolid::Block(s) => RawSolid {
+            kind: 2,
+            r: s.radius,
+            x: s.centre.x,
+            y: s.centre.y,
+            z: s.centre.z,
+            h0: s.half_x,
+            h1: s.half_y,
+            h2: s.half_z,
+            d: 0,
+        },
+        CatalogueSolid::Plane(s) => RawSolid {
+            kind: 3,
+            r: s.length,
+            x: s.normal_x,
+            y: s.normal_y,
+            z: s.normal_z,
+            h0: 0,
+            h1: 0,
+            h2: 0,
+            d: s.offset,
+        },
+        CatalogueSolid::Drum(s) => RawSolid {
+            kind: 4,
+            r: s.radius,
+            x: s.centre.x,
+            y: s.centre.y,
+            z: s.centre.z,
+            h0: s.half_height,
+            h1: axis_number(s.axis),
+            h2: 0,
+            d: 0,
+        },
+    }
+}
+
+fn axis_number(axis: Axis) -> u16
+    ensures { λ r. ⌜ r ≡ axis-number axis ⌝ }
+{
+    match axis {
+        Axis::X => 0,
+        Axis::Y => 1,
+        Axis::Z => 2,
+    }
 }

@@ -1,4 +1,5 @@
 // Records of joints.
+ghost use mathlib.Core.Path.{_≡_};
 ghost use Rattle.records.specs.Joint.{raw-joint-record, house-record, soft-record};
 ghost use Rattle.records.specs.Reads.{Reads};
 use joints::house::HouseJoint;
@@ -46,4 +47,30 @@ pub(crate) fn read_soft(bytes: &[u8]) -> Option<SoftJoint>
         2 if 1 <= k && k <= 2048 => Some(SoftJoint(Radius { k })),
         _ => None,
     }
+}
+
+fn raw_joint_bytes(joint: RawJoint) -> [u8; 4]
+    ensures { λ r. ⌜ r ≡ raw-joint-record joint ⌝ }
+{
+    let [form_low, form_high] = joint.form.to_le_bytes();
+    let [k_low, k_high] = joint.k.to_le_bytes();
+    [form_low, form_high, k_low, k_high]
+}
+
+pub(crate) fn house_bytes(joint: HouseJoint) -> [u8; 4]
+    ensures { λ r. ⌜ r ≡ house-record joint ⌝ }
+{
+    raw_joint_bytes(match joint {
+        HouseJoint::Sharp => RawJoint { form: 0, k: 0 },
+        HouseJoint::Rounded(r) => RawJoint { form: 1, k: r.k },
+    })
+}
+
+pub(crate) fn soft_bytes(joint: SoftJoint) -> [u8; 4]
+    ensures { λ r. ⌜ r ≡ soft-record joint ⌝ }
+{
+    raw_joint_bytes(RawJoint {
+        form: 2,
+        k: joint.0.k,
+    })
 }

@@ -1,5 +1,6 @@
 // Records of nodes.
-ghost use Rattle.records.specs.Node.{node-record};
+ghost use mathlib.Core.Path.{_≡_};
+ghost use Rattle.records.specs.Node.{kind-number, node-record};
 ghost use Rattle.records.specs.Reads.{Reads};
 use tree::node::Node;
 use tree::node::NodeKind;
@@ -32,4 +33,22 @@ pub(crate) fn read_node(bytes: &[u8]) -> Option<Node>
         turned,
         number,
     })
+}
+
+pub(crate) fn node_bytes(n: Node) -> [u8; 4]
+    ensures { λ r. ⌜ r ≡ node-record n ⌝ }
+{
+    let [low, high] = n.number.to_le_bytes();
+    [kind_number(n.kind), n.turned as u8, low, high]
+}
+
+fn kind_number(kind: NodeKind) -> u8
+    ensures { λ r. ⌜ r ≡ kind-number kind ⌝ }
+{
+    match kind {
+        NodeKind::Solid => 1,
+        NodeKind::Union => 2,
+        NodeKind::Common => 3,
+        NodeKind::Cut => 4,
+    }
 }

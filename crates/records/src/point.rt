@@ -1,5 +1,6 @@
 // Points in records.
 ghost use Prim.Native.Nat.{_+_, _≤_};
+ghost use mathlib.Core.Path.{_≡_};
 ghost use lib.ListN.{length};
 ghost use Rattle.space.specs.At.{at};
 ghost use Rattle.records.specs.Elements.{elements};
@@ -22,4 +23,13 @@ pub(crate) fn point(x: i16, y: i16, z: i16) -> Option<Point>
         return None;
     }
     Some(Point { x, y, z })
+}
+
+pub(crate) fn point_bytes(p: Point) -> [u8; 6]
+    ensures { λ r. ⌜ r ≡ point-record p ⌝ }
+{
+    let [x_low, x_high] = p.x.to_le_bytes();
+    let [y_low, y_high] = p.y.to_le_bytes();
+    let [z_low, z_high] = p.z.to_le_bytes();
+    [x_low, x_high, y_low, y_high, z_low, z_high]
 }

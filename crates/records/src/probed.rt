@@ -5,6 +5,7 @@ ghost use Rattle.records.specs.Probed.{probed-record};
 ghost use Rattle.records.specs.Reads.{Reads};
 use crate::bytes::u16_at;
 use crate::point::point_at;
+use crate::point::point_bytes;
 use solids::probed::Probed;
 use space::point::Point;
 
@@ -38,4 +39,16 @@ fn is_origin(p: Point) -> bool
     ensures { λ r. ⌜ r ≡ is-origin p ⌝ }
 {
     p.x == 0 && p.y == 0 && p.z == 0
+}
+
+pub(crate) fn probed_bytes(s: Probed) -> [u8; 52]
+    ensures { λ r. ⌜ r ≡ probed-record s ⌝ }
+{
+    let mut bytes = [0; 52];
+    bytes[0..2].copy_from_slice(&(s.count as u16).to_le_bytes());
+    bytes[2..4].copy_from_slice(&s.radius.to_le_bytes());
+    for i in 0..8 {
+        bytes[4 + 6 * i..10 + 6 * i].copy_from_slice(&point_bytes(s.centres[i]));
+    }
+    bytes
 }

@@ -7,11 +7,18 @@ ghost use Rattle.records.specs.Catalogue.{catalogue-record};
 ghost use Rattle.records.specs.Joint.{house-record, soft-record};
 ghost use Rattle.records.specs.Node.{node-record};
 ghost use Rattle.records.specs.Probed.{probed-record};
+ghost use Rattle.records.specs.Put.{put};
 ghost use Rattle.records.specs.Reads.{Reads};
+use crate::bytes::put_bytes;
+use crate::catalogue::catalogue_bytes;
 use crate::catalogue::read_catalogue;
+use crate::joint::house_bytes;
 use crate::joint::read_house;
 use crate::joint::read_soft;
+use crate::joint::soft_bytes;
+use crate::node::node_bytes;
 use crate::node::read_node;
+use crate::probed::probed_bytes;
 use crate::probed::read_probed;
 use joints::house::HouseJoint;
 use joints::soft::SoftJoint;
@@ -31,6 +38,9 @@ pub trait Record: Sized {
 
     law sized: { (x : Self) → length (written x) ≡ size };
 
+    // two values with one record are one value
+    law apart: { (x y : Self) → written x ≡ written y → x ≡ y };
+
     // lengths of tables do not wrap
     law short: { size ≤ 64 };
 
@@ -41,6 +51,10 @@ pub trait Record: Sized {
     // the value that these bytes are the record of, where there is one
     fn read(bytes: &[u8]) -> Option<Self>
         ensures { λ r. ⌜ Reads written (now (bytes .entry)) r ⌝ };
+
+    // puts the record over the front of an output that has room for it, and leaves another alone
+    fn write(&self, out: &mut [u8])
+        ensures { λ _. ⌜ now (out .exit) ≡ put (written (now (self .entry))) (now (out .entry)) ⌝ };
 }
 
 pub impl Record for CatalogueSolid as CatalogueRecord {
@@ -56,6 +70,10 @@ pub impl Record for CatalogueSolid as CatalogueRecord {
 
     fn read(bytes: &[u8]) -> Option<CatalogueSolid> {
         read_catalogue(bytes)
+    }
+
+    fn write(&self, out: &mut [u8]) {
+        put_bytes(&catalogue_bytes(*self), out);
     }
 }
 
@@ -73,6 +91,10 @@ pub impl Record for Probed as ProbedRecord {
     fn read(bytes: &[u8]) -> Option<Probed> {
         read_probed(bytes)
     }
+
+    fn write(&self, out: &mut [u8]) {
+        put_bytes(&probed_bytes(*self), out);
+    }
 }
 
 pub impl Record for HouseJoint as HouseRecord {
@@ -88,6 +110,10 @@ pub impl Record for HouseJoint as HouseRecord {
 
     fn read(bytes: &[u8]) -> Option<HouseJoint> {
         read_house(bytes)
+    }
+
+    fn write(&self, out: &mut [u8]) {
+        put_bytes(&house_bytes(*self), out);
     }
 }
 
@@ -105,6 +131,10 @@ pub impl Record for SoftJoint as SoftRecord {
     fn read(bytes: &[u8]) -> Option<SoftJoint> {
         read_soft(bytes)
     }
+
+    fn write(&self, out: &mut [u8]) {
+        put_bytes(&soft_bytes(*self), out);
+    }
 }
 
 pub impl Record for Node as NodeRecord {
@@ -120,5 +150,9 @@ pub impl Record for Node as NodeRecord {
 
     fn read(bytes: &[u8]) -> Option<Node> {
         read_node(bytes)
+    }
+
+    fn write(&self, out: &mut [u8]) {
+        put_bytes(&node_bytes(*self), out);
     }
 }

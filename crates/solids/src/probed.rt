@@ -2,6 +2,7 @@
 ghost use mathlib.Core.Bool.{true};
 ghost use mathlib.Core.Path.{_≡_};
 ghost use Prim.Native.Nat.{_≤_};
+ghost use lib.ListN.{length};
 ghost use Rattle.solids.specs.Unused.{unused-at-origin};
 use space::point::Point;
 
@@ -11,6 +12,7 @@ pub struct Probed {
     pub centres: [Point; 8],
     pub count: u8,
     pub radius: u16,
+    ghost eight: { length centres ≡ 8 },
     ghost some: { 1 ≤ count },
     ghost count_in: { count ≤ 8 },
     ghost radius_in: { radius ≤ 1024 },
