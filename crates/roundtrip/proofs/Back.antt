@@ -160,10 +160,11 @@ module _ {S J : Type 0} (size : ℕ) (solid-record : S → List ℕ) (joint-reco
   back = record {
     scene = scene-back;
     accepted = not-refused make size solid-record joint-record bytes rooms solids joints nodes scene-back tree-back;
-    no-other = λ solids-apart joints-apart others other-joints other-nodes other.
-      (same-tables solid-record solids-apart others solids (other .solids-are ∙ sym solids-are),
+    no-other = λ solids-apart joints-apart others other-joints other-nodes other. (
+      same-tables solid-record solids-apart others solids (other .solids-are ∙ sym solids-are),
       same-tables joint-record joints-apart other-joints joints (other .joints-are ∙ sym joints-are),
-      same-nodes other-nodes nodes (other .nodes-are ∙ sym nodes-are));
+      same-nodes other-nodes nodes (other .nodes-are ∙ sym nodes-are),
+    );
   }
 
 pub written-then-read : {S J : Type 0} (size : ℕ) (solid-record : S → List ℕ) (joint-record : J → List ℕ) → ((x : S) → length (solid-record x) ≡ size) → ((x : J) → length (joint-record x) ≡ 4) → Written-then-read size solid-record joint-record

@@ -87,18 +87,43 @@ module _ (make size : ℕ) (bytes : List ℕ) (rooms : Rooms) where
 
   pub no-fault : Header-fine make size bytes rooms → header-fault make size bytes rooms ≡ None
   no-fault fine =
-      none-found (count-faults make bytes ++ (layout-faults size bytes ++ room-faults bytes rooms))
-      (le-ltb (length bytes) 20 (fine .long),
-      (same-test (make-of bytes) make (fine .make-is),
-      (within-test 1 512 (count Solids bytes) (fine .some-solids) (fine .few-solids),
-      (within-test 0 511 (count Joints bytes) (omega arith) (fine .few-joints),
-      (within-test 1 1023 (count Nodes bytes) (fine .some-nodes) (fine .few-nodes),
-      (same-test (solids-offset bytes) solids-start (fine .solids-at),
-      (same-test (joints-offset bytes) (joints-start size bytes) (fine .joints-at),
-      (same-test (nodes-offset bytes) (nodes-start size bytes) (fine .nodes-at),
-      (same-test (length bytes) (file-end size bytes) (fine .ends),
-      (le-ltb (rooms .solids) (count Solids bytes) (fine .room .solids-room),
-      (le-ltb (rooms .joints) (count Joints bytes) (fine .room .joints-room),
-      (le-ltb (rooms .nodes) (count Nodes bytes) (fine .room .nodes-room),
-      (le-ltb (rooms .list) (count Nodes bytes) (fine .room .list-room),
-      tt)))))))))))))
+      none-found (count-faults make bytes ++ (layout-faults size bytes ++ room-faults bytes rooms)) (
+        le-ltb (length bytes) 20 (fine .long),
+        (
+          same-test (make-of bytes) make (fine .make-is),
+          (
+            within-test 1 512 (count Solids bytes) (fine .some-solids) (fine .few-solids),
+            (
+              within-test 0 511 (count Joints bytes) (omega arith) (fine .few-joints),
+              (
+                within-test 1 1023 (count Nodes bytes) (fine .some-nodes) (fine .few-nodes),
+                (
+                  same-test (solids-offset bytes) solids-start (fine .solids-at),
+                  (
+                    same-test (joints-offset bytes) (joints-start size bytes) (fine .joints-at),
+                    (
+                      same-test (nodes-offset bytes) (nodes-start size bytes) (fine .nodes-at),
+                      (
+                        same-test (length bytes) (file-end size bytes) (fine .ends),
+                        (
+                          le-ltb (rooms .solids) (count Solids bytes) (fine .room .solids-room),
+                          (
+                            le-ltb (rooms .joints) (count Joints bytes) (fine .room .joints-room),
+                            (
+                              le-ltb (rooms .nodes) (count Nodes bytes) (fine .room .nodes-room),
+                              (
+                                le-ltb (rooms .list) (count Nodes bytes) (fine .room .list-room),
+                                tt,
+                              ),
+                            ),
+                          ),
+                        ),
+                      ),
+                    ),
+                  ),
+                ),
+              ),
+            ),
+          ),
+        ),
+      )

@@ -52,9 +52,9 @@ module _ {S J : Type 0} (size : ℕ) (solid-record : S → List ℕ) (joint-reco
     pub scene : Scene-of make size solid-record joint-record bytes rooms solids joints nodes
     pub accepted : (e : Refusal) → Refused make size solid-record joint-record bytes rooms e → ⊥
     pub no-other :
-      Told-apart solid-record → Told-apart joint-record → (others : List S) (other-joints : List J) (other-nodes : List Node)
-      → Scene-of make size solid-record joint-record bytes rooms others other-joints other-nodes
-      → (others ≡ solids) × (other-joints ≡ joints) × (other-nodes ≡ nodes)
+        Told-apart solid-record → Told-apart joint-record → (others : List S) (other-joints : List J) (other-nodes : List Node)
+        → Scene-of make size solid-record joint-record bytes rooms others other-joints other-nodes
+        → (others ≡ solids) × (other-joints ≡ joints) × (other-nodes ≡ nodes)
 
   -- a scene that a file can hold, written and read again, is the same scene
   abbrev pub Written-then-read : Type 0

@@ -1,19 +1,45 @@
 // The header of a scene file.
-ghost use Prim.Native.Nat.{_+_, _*_, _≤_, _<_, _^_};
+ghost use mathlib.Core.List.{_++_};
 ghost use mathlib.Core.Path.{_≡_};
-ghost use Rattle.roundtrip.specs.Bytes.{header-bytes};
+ghost use Rattle.records.specs.LittleEndian.{u16-le, u32-le};
 
-pub(crate) fn header(make: u16, size: u32, solids: u16, joints: u16, nodes: u16) -> [u8; 20]
-    requires { ⌜ size ≤ 64 ⌝ }
-    ensures { λ r. ⌜ r ≡ header-bytes make size solids joints nodes ⌝ }
+// The make, the counts of the tables, and where each begins.
+pub(crate) fn header(
+    make: u16,
+    solids: u16,
+    joints: u16,
+    nodes: u16,
+    joints_start: u32,
+    nodes_start: u32,
+) -> [u8; 20]
+    ensures { λ r. ⌜ r ≡ u16-le make ++ u16-le solids ++ u16-le joints ++ u16-le nodes ++ u32-le 20 ++ u32-le «joints_start» ++ u32-le «nodes_start» ⌝ }
 {
-    let joints_start = 20 + size * solids as u32;
-    let nodes_start = joints_start + 4 * joints as u32;
-    let [m0, m1] = make.to_le_bytes();
-    let [s0, s1] = solids.to_le_bytes();
-    let [j0, j1] = joints.to_le_bytes();
-    let [n0, n1] = nodes.to_le_bytes();
-    let [a0, a1, a2, a3] = joints_start.to_le_bytes();
-    let [b0, b1, b2, b3] = nodes_start.to_le_bytes();
-    [m0, m1, s0, s1, j0, j1, n0, n1, 20, 0, 0, 0, a0, a1, a2, a3, b0, b1, b2, b3]
+    let [make_low, make_high] = make.to_le_bytes();
+    let [solids_low, solids_high] = solids.to_le_bytes();
+    let [joints_low, joints_high] = joints.to_le_bytes();
+    let [nodes_low, nodes_high] = nodes.to_le_bytes();
+    let [j0, j1, j2, j3] = joints_start.to_le_bytes();
+    let [n0, n1, n2, n3] = nodes_start.to_le_bytes();
+    [
+        make_low,
+        make_high,
+        solids_low,
+        solids_high,
+        joints_low,
+        joints_high,
+        nodes_low,
+        nodes_high,
+        20,
+        0,
+        0,
+        0,
+        j0,
+        j1,
+        j2,
+        j3,
+        n0,
+        n1,
+        n2,
+        n3,
+    ]
 }

@@ -13,7 +13,10 @@ use space::refusal::Refusal;
 
 // Writes a scene's file over the front of an output and answers its length; an output that is shorter
 // is refused with 19 and left alone.
-pub fn write<M: Make>(scene: &Scene<'_, M::Solid, M::Joint>, out: &mut [u8]) -> Result<usize, Refusal>
+pub fn write<M: Make>(
+    scene: &Scene<'_, M::Solid, M::Joint>,
+    out: &mut [u8],
+) -> Result<usize, Refusal>
     ensures answer { λ r. ⌜ r ≡ written-length (file-bytes make (Solid·Record .size) (Solid·Record .written) (Joint·Record .written) (now (now (scene .entry) .solids)) (now (now (scene .entry) .joints)) (now (now (scene .entry) .nodes))) (now (out .entry)) ⌝ }
     ensures after { λ _. ⌜ now (out .exit) ≡ put (file-bytes make (Solid·Record .size) (Solid·Record .written) (Joint·Record .written) (now (now (scene .entry) .solids)) (now (now (scene .entry) .joints)) (now (now (scene .entry) .nodes))) (now (out .entry)) ⌝ }
 {
@@ -27,7 +30,14 @@ pub fn write<M: Make>(scene: &Scene<'_, M::Solid, M::Joint>, out: &mut [u8]) -> 
     if out.len() < end {
         return Err(Refusal::Output);
     }
-    let head = header(M::make(), size as u32, solids as u16, joints as u16, nodes as u16);
+    let head = header(
+        M::make(),
+        solids as u16,
+        joints as u16,
+        nodes as u16,
+        joints_start as u32,
+        nodes_start as u32,
+    );
     out[0..20].copy_from_slice(&head);
     write_rows(scene.solids, out, 20);
     write_rows(scene.joints, out, joints_start);
