@@ -51,7 +51,25 @@ pub(crate) fn raw_bytes(raw: RawSolid) -> [u8; 20]
     let [h2_low, h2_high] = raw.h2.to_le_bytes();
     let [d0, d1, d2, d3] = raw.d.to_le_bytes();
     [
-        kind_low, kind_high, r_low, r_high, x_low, x_high, y_low, y_high, z_low, z_high, h0_low,
-        h0_high, h1_low, h1_high, h2_low, h2_high, d0, d1, d2, d3,
+        kind_low,
+        kind_high,
+        r_low,
+        r_high,
+        x_low,
+        x_high,
+        y_low,
+        y_high,
+        z_low,
+        z_high,
+        h0_low,
+        h0_high,
+        h1_low,
+        h1_high,
+        h2_low,
+        h2_high,
+        d0,
+        d1,
+        d2,
+        d3,
     ]
 }
