@@ -60,12 +60,11 @@ fn raw_joint_bytes(joint: RawJoint) -> [u8; 4]
 pub(crate) fn house_bytes(joint: HouseJoint) -> [u8; 4]
     ensures { λ r. ⌜ r ≡ house-record joint ⌝ }
 {
-    raw_joint_bytes(
-        match joint {
-            HouseJoint::Sharp => RawJoint { form: 0, k: 0 },
-            HouseJoint::Rounded(r) => RawJoint { form: 1, k: r.k },
-        },
-    )
+    let fields = match joint {
+        HouseJoint::Sharp => RawJoint { form: 0, k: 0 },
+        HouseJoint::Rounded(r) => RawJoint { form: 1, k: r.k },
+    };
+    raw_joint_bytes(fields)
 }
 
 pub(crate) fn soft_bytes(joint: SoftJoint) -> [u8; 4]
