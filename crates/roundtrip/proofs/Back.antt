@@ -11,7 +11,7 @@ use Rattle.roundtrip.proofs.Numbers.{make-back, solids-back, joints-back, node
 use Rattle.roundtrip.proofs.Pieces.{next-part, length-records, records-back}
 use Rattle.roundtrip.proofs.Refusals.{not-refused}
 use Rattle.roundtrip.specs.Bytes.{concat, file-bytes}
-use Rattle.roundtrip.specs.RoundTrip.{Storable, Room-for, Told-apart, Reads-back, Written-then-read}
+use Rattle.roundtrip.specs.RoundTrip.{Storable, Room-for, Reads-back, Written-then-read}
 use Rattle.scene.specs.Lists.{all-named}
 use Rattle.scene.specs.Used.{all-used}
 use Rattle.scenefile.proofs.Chains.{same-nodes}
@@ -24,6 +24,10 @@ use Rattle.space.specs.declared.refusal.Table.the-variants.{Solids, Joints, Nod
 use Rattle.tree.specs.Rows.{node-symbol}
 use Rattle.tree.specs.declared.node.Node.{Node}
 
+-- two values with one record are one value
+abbrev pub Told-apart : {X : Type 0} → (X → List ℕ) → Type 0
+Told-apart {X = X} written = (x y : X) → written x ≡ written y → x ≡ y
+
 -- tables with the same records are the same tables
 same-tables : {X : Type 0} (written : X → List ℕ) → Told-apart written → (xs ys : List X) → map written xs ≡ map written ys → xs ≡ ys
 same-tables written apart [] [] e = refl
@@ -34,7 +38,7 @@ same-tables written apart (x ∷ xs) (y ∷ ys) e =
     let more : map written xs ≡ map written ys = cc in
     ap₂ _∷_ (apart x y first) (same-tables written apart xs ys more)
 
-module _ {S J : Type 0} (size : ℕ) (solid-record : S → List ℕ) (joint-record : J → List ℕ) (sized : (x : S) → length (solid-record x) ≡ size) (four : (x : J) → length (joint-record x) ≡ 4) (make : ℕ) (rooms : Rooms) (solids : List S) (joints : List J) (nodes : List Node) (storable : Storable solids joints nodes) (room : Room-for (length solids) (length joints) (length nodes) rooms) where
+module _ {S J : Type 0} (size : ℕ) (solid-record : S → List ℕ) (joint-record : J → List ℕ) (sized : (x : S) → length (solid-record x) ≡ size) (four : (x : J) → length (joint-record x) ≡ 4) (solids-apart : Told-apart solid-record) (joints-apart : Told-apart joint-record) (make : ℕ) (rooms : Rooms) (solids : List S) (joints : List J) (nodes : List Node) (storable : Storable solids joints nodes) (room : Room-for (length solids) (length joints) (length nodes) rooms) where
   abbrev s : ℕ
   s = length solids
 
@@ -160,12 +164,12 @@ module _ {S J : Type 0} (size : ℕ) (solid-record : S → List ℕ) (joint-reco
   back = record {
     scene = scene-back;
     accepted = not-refused make size solid-record joint-record bytes rooms solids joints nodes scene-back tree-back;
-    no-other = λ solids-apart joints-apart others other-joints other-nodes other. (
+    no-other = λ others other-joints other-nodes other. (
       same-tables solid-record solids-apart others solids (other .solids-are ∙ sym solids-are),
       same-tables joint-record joints-apart other-joints joints (other .joints-are ∙ sym joints-are),
       same-nodes other-nodes nodes (other .nodes-are ∙ sym nodes-are),
     );
   }
 
-pub written-then-read : {S J : Type 0} (size : ℕ) (solid-record : S → List ℕ) (joint-record : J → List ℕ) → ((x : S) → length (solid-record x) ≡ size) → ((x : J) → length (joint-record x) ≡ 4) → Written-then-read size solid-record joint-record
+pub written-then-read : {S J : Type 0} (size : ℕ) (solid-record : S → List ℕ) (joint-record : J → List ℕ) → ((x : S) → length (solid-record x) ≡ size) → ((x : J) → length (joint-record x) ≡ 4) → Told-apart solid-record → Told-apart joint-record → Written-then-read size solid-record joint-record
 written-then-read = back

@@ -34,10 +34,6 @@ pub record Room-for (solids joints nodes : ℕ) (rooms : Rooms) : Type 0 where
   pub nodes-room : nodes ≤ rooms .nodes
   pub list-room : nodes ≤ rooms .list
 
--- two values with one record are one value
-abbrev pub Told-apart : {X : Type 0} → (X → List ℕ) → Type 0
-Told-apart {X = X} written = (x y : X) → written x ≡ written y → x ≡ y
-
 module _ {S J : Type 0} (size : ℕ) (solid-record : S → List ℕ) (joint-record : J → List ℕ) where
   -- an accepted file, read and written again, has its old bytes
   abbrev pub Read-then-written : Type 0
@@ -52,7 +48,7 @@ module _ {S J : Type 0} (size : ℕ) (solid-record : S → List ℕ) (joint-reco
     pub scene : Scene-of make size solid-record joint-record bytes rooms solids joints nodes
     pub accepted : (e : Refusal) → Refused make size solid-record joint-record bytes rooms e → ⊥
     pub no-other :
-        Told-apart solid-record → Told-apart joint-record → (others : List S) (other-joints : List J) (other-nodes : List Node)
+        (others : List S) (other-joints : List J) (other-nodes : List Node)
         → Scene-of make size solid-record joint-record bytes rooms others other-joints other-nodes
         → (others ≡ solids) × (other-joints ≡ joints) × (other-nodes ≡ nodes)
 

@@ -1,7 +1,10 @@
 // Writing a scene back as the file that it is.
 ghost use mathlib.Core.Path.{_≡_};
+ghost use lib.ListN.{length};
 ghost use Rattle.records.specs.Put.{put};
 ghost use Rattle.roundtrip.specs.Bytes.{file-bytes};
+ghost use Rattle.roundtrip.specs.RoundTrip.{Room-for, Reads-back};
+ghost use Rattle.scenefile.specs.declared.counts.Rooms.{Rooms};
 ghost use Rattle.writer.specs.Write.{written-length};
 use crate::header::header;
 use crate::rows::write_rows;
@@ -12,13 +15,15 @@ use scene::scene::Scene;
 use space::refusal::Refusal;
 
 // Writes a scene's file over the front of an output and answers its length; an output that is shorter
-// is refused with 19 and left alone.
+// is refused with 19 and left alone. What is written, read again into tables with room, is accepted and
+// is this scene and no other.
 pub fn write<M: Make>(
     scene: &Scene<'_, M::Solid, M::Joint>,
     out: &mut [u8],
 ) -> Result<usize, Refusal>
     ensures answer { λ r. ⌜ r ≡ written-length (file-bytes make (Solid·Record .size) (Solid·Record .written) (Joint·Record .written) (now (now (scene .entry) .solids)) (now (now (scene .entry) .joints)) (now (now (scene .entry) .nodes))) (now (out .entry)) ⌝ }
     ensures after { λ _. ⌜ now (out .exit) ≡ put (file-bytes make (Solid·Record .size) (Solid·Record .written) (Joint·Record .written) (now (now (scene .entry) .solids)) (now (now (scene .entry) .joints)) (now (now (scene .entry) .nodes))) (now (out .entry)) ⌝ }
+    ensures again { λ _. ⌜ ((rooms : Rooms) → Room-for (length (now (now (scene .entry) .solids))) (length (now (now (scene .entry) .joints))) (length (now (now (scene .entry) .nodes))) rooms → Reads-back (Solid·Record .size) (Solid·Record .written) (Joint·Record .written) make (file-bytes make (Solid·Record .size) (Solid·Record .written) (Joint·Record .written) (now (now (scene .entry) .solids)) (now (now (scene .entry) .joints)) (now (now (scene .entry) .nodes))) rooms (now (now (scene .entry) .solids)) (now (now (scene .entry) .joints)) (now (now (scene .entry) .nodes))) ⌝ }
 {
     let size = M::Solid::size();
     let solids = scene.solids.len();
