@@ -81,6 +81,7 @@ probed = record {
   «count_in» = lit≤ tt;
   «radius_in» = lit≤ tt;
   unused = refl;
+  eight = refl;
 }
 
 abbrev pub rounded : HouseJoint

@@ -78,3 +78,28 @@ impl<S: Copy, J: Copy> Room<S, J> {
         }
     }
 }
+
+const ORIGIN: Point = Point { x: 0, y: 0, z: 0 };
+
+// Room for a scene of catalogue solids and house joints.
+pub fn catalogue_room(heap: Global) -> Result<Room<CatalogueSolid, HouseJoint>, AllocError>
+    ensures { λ r. ⌜ made r (λ m. (vec-len (m .solids) ≡ 512) × (vec-len (m .joints) ≡ 511) × (vec-len (m .nodes) ≡ 1023) × (vec-len (m .list) ≡ 1023)) ⌝ }
+{
+    let ball = Ball {
+        centre: ORIGIN,
+        radius: 0,
+    };
+    Room::new(heap, CatalogueSolid::Ball(ball), HouseJoint::Sharp)
+}
+
+// Room for a scene of probed solids and soft joints.
+pub fn probed_room(heap: Global) -> Result<Room<Probed, SoftJoint>, AllocError>
+    ensures { λ r. ⌜ made r (λ m. (vec-len (m .solids) ≡ 512) × (vec-len (m .joints) ≡ 511) × (vec-len (m .nodes) ≡ 1023) × (vec-len (m .list) ≡ 1023)) ⌝ }
+{
+    let touched = Probed {
+        centres: [ORIGIN; 8],
+        count: 1,
+        radius: 0,
+    };
+    Room::new(heap, touched, SoftJoint(Radius { k: 1 }))
+}
