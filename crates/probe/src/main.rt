@@ -10,12 +10,12 @@ use records::make::CatalogueMakeMake;
 use records::make::Make;
 use records::make::ProbedMake;
 use records::make::ProbedMakeMake;
+use room::room::Room;
 use room::room::catalogue_room;
 use room::room::probed_room;
 use scene::scene::Scene;
 use scenefile::make_number::make_number;
 use scenefile::read::read;
-use scenefile::tables::Tables;
 use solids::kinds::CatalogueSolidSolid;
 use solids::kinds::ProbedSolid;
 use solids::solid::Solid;
@@ -46,8 +46,8 @@ fn serve<S: Solid, J: Joint>(rt: &LibcRuntime, scene: &Scene<S, J>) -> Result<()
 }
 
 // Reads a scene of a make and serves it, or prints why it is refused.
-fn run<M: Make>(rt: &LibcRuntime, bytes: &[u8], tables: Tables<'_, M::Solid, M::Joint>) -> Result<(), AnyError> {
-    match read::<M>(bytes, tables) {
+fn run<M: Make>(rt: &LibcRuntime, bytes: &[u8], room: &mut Room<M::Solid, M::Joint>) -> Result<(), AnyError> {
+    match read::<M>(bytes, room.tables()) {
         Ok(scene) => serve(rt, &scene),
         Err(unread) => {
             let reply = Answer::No(unread.refusal);
@@ -63,8 +63,8 @@ fn open(rt: &LibcRuntime) -> Result<(), AnyError> {
     };
     let bytes = bytes.as_slice();
     match make_number(bytes) {
-        Some(2) => run::<ProbedMake>(rt, bytes, probed_room(rt.alloc())?.tables()),
-        _ => run::<CatalogueMake>(rt, bytes, catalogue_room(rt.alloc())?.tables()),
+        Some(2) => run::<ProbedMake>(rt, bytes, &mut probed_room(rt.alloc())?),
+        _ => run::<CatalogueMake>(rt, bytes, &mut catalogue_room(rt.alloc())?),
     }
 }
 

@@ -3,45 +3,35 @@
 use clearance::answer::Answer;
 use clearance::display::AnswerDisplay;
 use clearance::script::answer;
-use joints::house::HouseJoint;
 use joints::house::HouseJointJoint;
 use joints::joint::Joint;
-use joints::radius::Radius;
-use joints::soft::SoftJoint;
 use joints::soft::SoftJointJoint;
 use records::make::CatalogueMake;
 use records::make::CatalogueMakeMake;
 use records::make::Make;
 use records::make::ProbedMake;
 use records::make::ProbedMakeMake;
+use room::room::Room;
+use room::room::catalogue_room;
+use room::room::probed_room;
 use scene::scene::Scene;
 use scenefile::make_number::make_number;
 use scenefile::read::read;
-use scenefile::tables::Tables;
-use solids::catalogue::Ball;
-use solids::catalogue::CatalogueSolid;
 use solids::kinds::CatalogueSolidSolid;
 use solids::kinds::ProbedSolid;
-use solids::probed::Probed;
 use solids::solid::Solid;
-use space::point::Point;
-use std::alloc::AllocError;
-use std::alloc::Global;
 use std::error::AnyError;
 use std::fs;
-use tree::node::Entry;
-use tree::node::EntryKind;
-use tree::node::Node;
-use tree::node::NodeKind;
+use writer::write::write;
 
 const SCENES: u32 = 48;
 
-const ORIGIN: Point = Point { x: 0, y: 0, z: 0 };
 
-// How many answers were compared, and how many differ.
+// How many answers were compared, how many files written back, and how many of both differ.
 #[derive(Clone, Copy)]
 struct Tally {
     all: u32,
+    written: u32,
     differ: u32,
 }
 
@@ -89,85 +79,45 @@ fn answer_lines<S: Solid, J: Joint>(
     Ok(())
 }
 
-// A table of n equal rows.
-fn table<T: Copy>(heap: Global, row: T, n: usize) -> Result<Vec<T>, AllocError> {
-    let mut rows = Vec::with_capacity(heap, n)?;
-    for _ in 0..n {
-        rows.push(row)?;
+// Writes a scene back and compares the bytes with the file's.
+fn write_back<M: Make>(rt: &LibcRuntime, scene: &Scene<'_, M::Solid, M::Joint>, case: Case<'_>, tally: &mut Tally) -> Result<(), AnyError> {
+    tally.written = tally.written.saturating_add(1);
+    let mut out = case.bytes.to_vec(rt.alloc())?;
+    out.fill(0);
+    let _ = write::<M>(scene, out.as_mut_slice());
+    if out.as_slice() != case.bytes {
+        let name = case.name;
+        tally.differ = tally.differ.saturating_add(1);
+        println!(rt, "{name}: written back, its bytes differ")?;
     }
-    Ok(rows)
+    Ok(())
 }
 
-// Reads the file of a case and answers its lines; a refusal is its only answer.
-fn replay<M: Make>(
-    rt: &LibcRuntime,
-    case: Case<'_>,
-    solid: M::Solid,
-    joint: M::Joint,
-    tally: &mut Tally,
-) -> Result<(), AnyError> {
-    let node = Node {
-        kind: NodeKind::Solid,
-        turned: false,
-        number: 0,
-    };
-    let entry = Entry {
-        kind: EntryKind::Solid,
-        turned: false,
-        number: 0,
-    };
-    let mut solids = table(rt.alloc(), solid, 512)?;
-    let mut joints = table(rt.alloc(), joint, 511)?;
-    let mut nodes = table(rt.alloc(), node, 1023)?;
-    let mut list = table(rt.alloc(), entry, 1023)?;
-    let tables = Tables {
-        solids: solids.as_mut_slice(),
-        joints: joints.as_mut_slice(),
-        nodes: nodes.as_mut_slice(),
-        list: list.as_mut_slice(),
-    };
-    match read::<M>(case.bytes, tables) {
-        Ok(scene) => answer_lines(rt, &scene, case, tally),
-        Err(unread) => compare(
-            rt,
-            case.name,
-            "",
-            Answer::No(unread.refusal),
-            case.wanted,
-            tally,
-        ),
+// Reads the file of a case, writes it back and answers its lines; a refusal is its only answer.
+fn replay<M: Make>(rt: &LibcRuntime, case: Case<'_>, room: &mut Room<M::Solid, M::Joint>, tally: &mut Tally) -> Result<(), AnyError> {
+    match read::<M>(case.bytes, room.tables()) {
+        Ok(scene) => {
+            write_back::<M>(rt, &scene, case, tally)?;
+            answer_lines(rt, &scene, case, tally)
+        }
+        Err(unread) => compare(rt, case.name, "", Answer::No(unread.refusal), case.wanted, tally),
     }
 }
 
 fn replay_any(rt: &LibcRuntime, case: Case<'_>, tally: &mut Tally) -> Result<(), AnyError> {
     match make_number(case.bytes) {
-        Some(2) => replay::<ProbedMake>(
-            rt,
-            case,
-            Probed {
-                centres: [ORIGIN; 8],
-                count: 1,
-                radius: 0,
-            },
-            SoftJoint(Radius { k: 1 }),
-            tally,
-        ),
-        _ => replay::<CatalogueMake>(
-            rt,
-            case,
-            CatalogueSolid::Ball(Ball {
-                centre: ORIGIN,
-                radius: 0,
-            }),
-            HouseJoint::Sharp,
-            tally,
-        ),
+        Some(2) => replay::<ProbedMake>(rt, case, &mut probed_room(rt.alloc())?, tally),
+        _ => replay::<CatalogueMake>(rt, case, &mut catalogue_room(rt.alloc())?, tally),
     }
 }
 
 fn scenes(rt: &LibcRuntime) -> Result<Tally, AnyError> {
     let heap = rt.alloc();
-    let mut tally = Tally { all: 0, differ: 0 };
+    let mut tally = Tally {
+        all: 0,
+        written: 0,
+        differ: 0,
+    };
     for k in 0..SCENES {
         let name = format!(heap, "scene-{k:02}")?;
         let bytes = fs::read(rt, format!(heap, "{name}.bin")?)?;
@@ -186,7 +136,11 @@ fn scenes(rt: &LibcRuntime) -> Result<Tally, AnyError> {
 
 // The files stand one after another, each behind its length as four bytes, the low one first.
 fn damaged(rt: &LibcRuntime) -> Result<Tally, AnyError> {
-    let mut tally = Tally { all: 0, differ: 0 };
+    let mut tally = Tally {
+        all: 0,
+        written: 0,
+        differ: 0,
+    };
     let all = fs::read(rt, "damaged.bin")?;
     let wanted = fs::read_to_string(rt, "damaged.out")?;
     let mut left = all.as_slice();
@@ -212,10 +166,18 @@ fn damaged(rt: &LibcRuntime) -> Result<Tally, AnyError> {
 }
 
 fn run(rt: &LibcRuntime) -> Result<(), AnyError> {
-    let Tally { all, differ } = scenes(rt)?;
-    println!(rt, "{SCENES} scenes: {all} lines answered, {differ} differ")?;
-    let Tally { all, differ } = damaged(rt)?;
-    println!(rt, "damaged files: {all} refused, {differ} differ")?;
+    let Tally {
+        all,
+        written,
+        differ,
+    } = scenes(rt)?;
+    println!(rt, "scenes: {all} lines answered, {written} files written back, {differ} differ")?;
+    let Tally {
+        all,
+        written,
+        differ,
+    } = damaged(rt)?;
+    println!(rt, "damaged files: {all} refused, {written} accepted, {differ} differ")?;
     Ok(())
 }
 
