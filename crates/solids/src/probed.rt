@@ -12,6 +12,7 @@ pub struct Probed {
     pub centres: [Point; 8],
     pub count: u8,
     pub radius: u16,
+    // in clauses an array is a list, and its type does not say how long
     ghost eight: { length centres ≡ 8 },
     ghost some: { 1 ≤ count },
     ghost count_in: { count ≤ 8 },
