@@ -46,7 +46,11 @@ fn serve<S: Solid, J: Joint>(rt: &LibcRuntime, scene: &Scene<S, J>) -> Result<()
 }
 
 // Reads a scene of a make and serves it, or prints why it is refused.
-fn run<M: Make>(rt: &LibcRuntime, bytes: &[u8], room: &mut Room<M::Solid, M::Joint>) -> Result<(), AnyError> {
+fn run<M: Make>(
+    rt: &LibcRuntime,
+    bytes: &[u8],
+    room: &mut Room<M::Solid, M::Joint>,
+) -> Result<(), AnyError> {
     match read::<M>(bytes, room.tables()) {
         Ok(scene) => serve(rt, &scene),
         Err(unread) => {

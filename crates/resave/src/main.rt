@@ -21,7 +21,11 @@ use std::fs;
 use writer::rewrite::rewrite;
 
 // Writes a file of a make back into an output, and answers its length.
-fn put_back<M: Make>(bytes: &[u8], tables: Tables<'_, M::Solid, M::Joint>, out: &mut [u8]) -> Result<usize, Refusal> {
+fn put_back<M: Make>(
+    bytes: &[u8],
+    tables: Tables<'_, M::Solid, M::Joint>,
+    out: &mut [u8],
+) -> Result<usize, Refusal> {
     let Tables {
         solids,
         joints,

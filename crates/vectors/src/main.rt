@@ -26,7 +26,6 @@ use writer::write::write;
 
 const SCENES: u32 = 48;
 
-
 // How many answers were compared, how many files written back, and how many of both differ.
 #[derive(Clone, Copy)]
 struct Tally {
@@ -80,7 +79,12 @@ fn answer_lines<S: Solid, J: Joint>(
 }
 
 // Writes a scene back and compares the bytes with the file's.
-fn write_back<M: Make>(rt: &LibcRuntime, scene: &Scene<'_, M::Solid, M::Joint>, case: Case<'_>, tally: &mut Tally) -> Result<(), AnyError> {
+fn write_back<M: Make>(
+    rt: &LibcRuntime,
+    scene: &Scene<'_, M::Solid, M::Joint>,
+    case: Case<'_>,
+    tally: &mut Tally,
+) -> Result<(), AnyError> {
     tally.written = tally.written.saturating_add(1);
     let mut out = case.bytes.to_vec(rt.alloc())?;
     out.fill(0);
@@ -94,13 +98,25 @@ fn write_back<M: Make>(rt: &LibcRuntime, scene: &Scene<'_, M::Solid, M::Joint>, 
 }
 
 // Reads the file of a case, writes it back and answers its lines; a refusal is its only answer.
-fn replay<M: Make>(rt: &LibcRuntime, case: Case<'_>, room: &mut Room<M::Solid, M::Joint>, tally: &mut Tally) -> Result<(), AnyError> {
+fn replay<M: Make>(
+    rt: &LibcRuntime,
+    case: Case<'_>,
+    room: &mut Room<M::Solid, M::Joint>,
+    tally: &mut Tally,
+) -> Result<(), AnyError> {
     match read::<M>(case.bytes, room.tables()) {
         Ok(scene) => {
             write_back::<M>(rt, &scene, case, tally)?;
             answer_lines(rt, &scene, case, tally)
         }
-        Err(unread) => compare(rt, case.name, "", Answer::No(unread.refusal), case.wanted, tally),
+        Err(unread) => compare(
+            rt,
+            case.name,
+            "",
+            Answer::No(unread.refusal),
+            case.wanted,
+            tally,
+        ),
     }
 }
 
@@ -171,13 +187,19 @@ fn run(rt: &LibcRuntime) -> Result<(), AnyError> {
         written,
         differ,
     } = scenes(rt)?;
-    println!(rt, "scenes: {all} lines answered, {written} files written back, {differ} differ")?;
+    println!(
+        rt,
+        "scenes: {all} lines answered, {written} files written back, {differ} differ"
+    )?;
     let Tally {
         all,
         written,
         differ,
     } = damaged(rt)?;
-    println!(rt, "damaged files: {all} refused, {written} accepted, {differ} differ")?;
+    println!(
+        rt,
+        "damaged files: {all} refused, {written} accepted, {differ} differ"
+    )?;
     Ok(())
 }
 
