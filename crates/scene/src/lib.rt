@@ -2,6 +2,7 @@
 pub mod distance;
 mod evaluate;
 mod joining;
+pub mod lawful;
 pub mod scene;
 mod stack;
 mod waiting;

@@ -1,7 +1,9 @@
 // The theory of scenes: trees of solids, their distance, and their post-order lists. Each function
 // answers 0; its contract is a theorem about the definitions that the code's contracts cite.
 ghost use Rattle.tree.specs.Order.{Order-law};
+ghost use Rattle.tree.specs.Prune.{Prune-law};
 ghost use Rattle.tree.specs.Rows.{Entries-law};
+ghost use Rattle.tree.specs.ValueLaw.{Operators-law, Value-law};
 ghost use Rattle.tree.specs.Whole.{Whole-law};
 
 pub mod node;
@@ -23,6 +25,28 @@ pub fn whole_law() -> u8
 // The entries that a node table's rows are made into are the symbols of the whole list.
 pub fn entries_law() -> u8
     ensures { λ _. ⌜ Entries-law ⌝ }
+{
+    0
+}
+
+// Union and common are monotone in both operands and shift with them; a cut is a common.
+pub fn operators_law() -> u8
+    ensures { λ _. ⌜ Operators-law ⌝ }
+{
+    0
+}
+
+// Every tree of lawful parts obeys the distance law.
+pub fn value_law() -> u8
+    ensures { λ _. ⌜ Value-law ⌝ }
+{
+    0
+}
+
+// A pruned tree has the tree's value at every point within R of the centre, however many operators drop
+// out one above the other.
+pub fn prune_law() -> u8
+    ensures { λ _. ⌜ Prune-law ⌝ }
 {
     0
 }
