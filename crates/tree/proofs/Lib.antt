@@ -4,5 +4,6 @@ pub mod Orders
 pub mod Pruning
 pub mod Runs
 pub mod Sizes
+pub mod Twinning
 pub mod Values
 pub mod Wholes

@@ -6,5 +6,6 @@ pub mod Rows
 pub mod Spell
 pub mod Stepped
 pub mod Tree
+pub mod Twins
 pub mod ValueLaw
 pub mod Whole

@@ -3,6 +3,7 @@
 ghost use Rattle.tree.specs.Order.{Order-law};
 ghost use Rattle.tree.specs.Prune.{Prune-law};
 ghost use Rattle.tree.specs.Rows.{Entries-law};
+ghost use Rattle.tree.specs.Twins.{Twin-law, Twins-pruned};
 ghost use Rattle.tree.specs.ValueLaw.{Operators-law, Value-law};
 ghost use Rattle.tree.specs.Whole.{Whole-law};
 
@@ -47,6 +48,20 @@ pub fn value_law() -> u8
 // out one above the other.
 pub fn prune_law() -> u8
     ensures { λ _. ⌜ Prune-law ⌝ }
+{
+    0
+}
+
+// Twins have equal values at every point, and equally long lists.
+pub fn twin_law() -> u8
+    ensures { λ _. ⌜ Twin-law ⌝ }
+{
+    0
+}
+
+// Pruning takes twins to twins.
+pub fn twins_pruned() -> u8
+    ensures { λ _. ⌜ Twins-pruned ⌝ }
 {
     0
 }
