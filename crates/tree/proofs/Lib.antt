@@ -1,9 +1,11 @@
+pub mod Fars
 pub mod Lawfuls
 pub mod Operators
 pub mod Orders
 pub mod Pruning
 pub mod Runs
 pub mod Sizes
+pub mod Smaller
 pub mod Twinning
 pub mod Values
 pub mod Wholes

@@ -61,13 +61,13 @@ twin-value (after h k) P p = twin-value h P p ∙ twin-value k P p
 
 -- ---- lengths
 
-join-length : (op : Op) (turned : Bool) (n : ℕ) (a b : Tree) → length (spell (join op turned n a b)) ≡ length (spell a) + length (spell b) + 1
+pub join-length : (op : Op) (turned : Bool) (n : ℕ) (a b : Tree) → length (spell (join op turned n a b)) ≡ length (spell a) + length (spell b) + 1
 unfolding spell
 join-length op turned n a b =
     let o = operator op turned n ∷ [] in
     omega (arith, length-append (spell a) (spell b ++ o), length-append (spell b) o)
 
-turn-length : (t : Tree) → length (spell (turn t)) ≡ length (spell t)
+pub turn-length : (t : Tree) → length (spell (turn t)) ≡ length (spell t)
 unfolding spell
 turn-length (leaf turned n) = refl
 turn-length (join op turned n a b) = join-length op (not turned) n a b ∙ sym (join-length op turned n a b)

@@ -1,8 +1,10 @@
 pub mod Distance
+pub mod Far
 pub mod Order
 pub mod Parts
 pub mod Prune
 pub mod Rows
+pub mod Smaller
 pub mod Spell
 pub mod Stepped
 pub mod Tree

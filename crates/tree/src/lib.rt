@@ -1,8 +1,10 @@
 // The theory of scenes: trees of solids, their distance, and their post-order lists. Each function
 // answers 0; its contract is a theorem about the definitions that the code's contracts cite.
+ghost use Rattle.tree.specs.Far.{Far-law};
 ghost use Rattle.tree.specs.Order.{Order-law};
 ghost use Rattle.tree.specs.Prune.{Prune-law};
 ghost use Rattle.tree.specs.Rows.{Entries-law};
+ghost use Rattle.tree.specs.Smaller.{Smaller-law};
 ghost use Rattle.tree.specs.Twins.{Twin-law, Twins-pruned};
 ghost use Rattle.tree.specs.ValueLaw.{Operators-law, Value-law};
 ghost use Rattle.tree.specs.Whole.{Whole-law};
@@ -62,6 +64,21 @@ pub fn twin_law() -> u8
 // Pruning takes twins to twins.
 pub fn twins_pruned() -> u8
     ensures { λ _. ⌜ Twins-pruned ⌝ }
+{
+    0
+}
+
+// The constant of a far cell is not 0, of the distance's sign and not greater in size, at every point within
+// R of the centre.
+pub fn far_law() -> u8
+    ensures { λ _. ⌜ Far-law ⌝ }
+{
+    0
+}
+
+// Pruning never lengthens a list or deepens its stack.
+pub fn smaller_law() -> u8
+    ensures { λ _. ⌜ Smaller-law ⌝ }
 {
     0
 }
