@@ -1,4 +1,6 @@
 // Cells: the cubes of space that a search goes down through.
+#![tactic(auto)]
+
 ghost use Rattle.cells.specs.CellLaw.{CellLaw};
 
 pub mod cell;

@@ -1,4 +1,6 @@
 // What a scene answers to a line of a script, and figures worked out by hand.
+#![tactic(auto)]
+
 pub mod answer;
 pub mod call;
 pub mod display;

@@ -1,4 +1,6 @@
 // Joints: what one means, and the kinds in use.
+#![tactic(auto)]
+
 pub mod house;
 pub mod joint;
 pub mod radius;

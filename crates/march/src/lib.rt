@@ -1,4 +1,6 @@
 // Marches: from a point toward another until something is near, through any gauge of distances.
+#![tactic(auto)]
+
 pub mod begin;
 pub mod gauge;
 pub mod motion;

@@ -1,5 +1,7 @@
 // What a path of cells leads to. Each function answers 0; its contract is a theorem about the definitions
 // that the code's contracts cite.
+#![tactic(auto)]
+
 ghost use Rattle.paths.specs.Held.{HeldLaw};
 ghost use Rattle.paths.specs.TwinGaps.{TwinGaps};
 ghost use Rattle.paths.specs.TwinPaths.{TwinsHeld};

@@ -1,4 +1,6 @@
 // Reads scene.bin, then lines from standard input, and prints an answer for each.
+#![tactic(auto)]
+
 use anyhow::anyhow;
 use clearance::answer::Answer;
 use clearance::script::answer;

@@ -1,4 +1,6 @@
 // The records of a scene file.
+#![tactic(auto)]
+
 mod bytes;
 mod catalogue;
 mod joint;

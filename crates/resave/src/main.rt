@@ -1,4 +1,6 @@
 // Reads each scene file that it is given by name and writes it back beside it, as NAME.copy.
+#![tactic(auto)]
+
 use clearance::answer::Answer;
 use records::make::{CatalogueMake, Make, ProbedMake};
 use room::room::{catalogue_room, probed_room};

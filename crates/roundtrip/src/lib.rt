@@ -1,5 +1,7 @@
 // The bytes of a scene file. Each function answers 0; its contract is a theorem for every make of
 // file: reading and writing undo each other.
+#![tactic(auto)]
+
 ghost use Rattle.roundtrip.specs.RoundTrip.{ReadThenWritten, WrittenThenRead};
 
 use records::make::Make;

@@ -1,4 +1,6 @@
 // Scenes: node tables, their whole lists, and the distance of a checked scene.
+#![tactic(auto)]
+
 mod block;
 mod cutting;
 pub mod distance;

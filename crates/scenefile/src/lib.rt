@@ -1,4 +1,6 @@
 // Scene files: one reader for every make.
+#![tactic(auto)]
+
 mod check;
 pub mod counts;
 mod header;

@@ -1,5 +1,7 @@
 // The theory of set points: the points that a march can stop at. The function answers 0; its contract is
 // a theorem about the definitions that the code's contracts cite.
+#![tactic(auto)]
+
 ghost use Rattle.setpoints.specs.Law.{SetPointsLaw};
 
 // Set points begin at A and end at B, all are points of space, and two of them that are j numbers apart

@@ -1,4 +1,6 @@
 // Solids: what one means, and the kinds in use.
+#![tactic(auto)]
+
 pub mod catalogue;
 mod distances;
 pub mod kinds;

@@ -1,5 +1,7 @@
 // The theory of scenes: trees of solids, their distance, and their post-order lists. Each function
 // answers 0; its contract is a theorem about the definitions that the code's contracts cite.
+#![tactic(auto)]
+
 ghost use Rattle.tree.specs.Far.{FarLaw};
 ghost use Rattle.tree.specs.Order.{OrderLaw};
 ghost use Rattle.tree.specs.Prune.{PruneLaw};

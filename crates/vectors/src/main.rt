@@ -1,6 +1,8 @@
 // Replays cases whose answers come from an independent model, and prints what differs: scenes with
 // lines to answer, damaged files with the refusal that each must get, paths with what they lead to, and
 // motions with how their marches end.
+#![tactic(auto)]
+
 use crate::case::{Ask, Case, Tally};
 use crate::lines::{answer_lines, compare, write_back};
 use crate::marches::make_marches;

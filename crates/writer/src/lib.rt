@@ -1,4 +1,6 @@
 // Writing a scene back as a file.
+#![tactic(auto)]
+
 mod header;
 pub mod rewrite;
 mod rows;

@@ -3,6 +3,6 @@ use Rattle.tree.specs.Order.{order_fault}
 use Rattle.tree.specs.Rows.{whole_entries}
 use Rattle.clearance.proofs.tests.answers.Goals as goal
 
-pub invariant-of-scene : goal.invariant-of-scene
+pub invariant_of-scene : goal.invariant_of-scene
 unfolding order_fault whole_entries
-invariant-of-scene c = (lit≤ tt, (lit≤ tt, (lit≤ tt, (refl, (refl, (refl, (refl, tt)))))))
+invariant_of-scene c = (lit≤ tt, (lit≤ tt, (lit≤ tt, (refl, (refl, (refl, (refl, tt)))))))

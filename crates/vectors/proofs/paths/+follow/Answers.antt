@@ -10,8 +10,8 @@ split-at-mut-list-requires g t c =
     let again = subst (λ (r : Child). ReadyAgain (length held.solids.now) (length held.joints.now) c.descend.new.free (Ok r)) c.in-Near.is c.in-Ok.ensures.again in
     again.0
 
-pub invariant-of-next : goal.invariant-of-next
-invariant-of-next g t c =
+pub invariant_of-next : goal.invariant_of-next
+invariant_of-next g t c =
     let held = c.args.held.now in
     let solids = length held.solids.now in
     let joints = length held.joints.now in

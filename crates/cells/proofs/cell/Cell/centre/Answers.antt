@@ -3,8 +3,8 @@ use Rattle.cells.proofs.Casts.{middle_read, middle_range}
 use Rattle.cells.proofs.Levels.{side_some}
 use Rattle.cells.proofs.cell.Cell.centre.Goals as goal
 
-pub invariant-of-result : goal.invariant-of-result
-invariant-of-result c =
+pub invariant_of-result : goal.invariant_of-result
+invariant_of-result c =
     let s = c.args.self in
     let some = side_some s.level s.level_in in
     let e = c.side.ensures in (

@@ -17,13 +17,13 @@ part-requires-3 c =
     let s = c.args.self in
     (few_third c.args.number c.if-number-ge-CHILDREN.false, four_held s.level c.child-side-extent.result s.low.z c.if-self-ge-FINEST.false s.z_in c.child-side-extent.ensures)
 
-pub invariant-of-result : goal.invariant-of-result
-invariant-of-result c =
+pub invariant_of-result : goal.invariant_of-result
+invariant_of-result c =
     child_ranges c.args.self c.args.number c.child-side-extent.result c.part.result c.part-2.result c.part-3.result
     c.if-number-ge-CHILDREN.false c.if-self-ge-FINEST.false c.child-side-extent.ensures c.part.ensures c.part-2.ensures c.part-3.ensures
 
-pub invariant-of-result-2 : goal.invariant-of-result-2
-invariant-of-result-2 c =
+pub invariant_of-result-2 : goal.invariant_of-result-2
+invariant_of-result-2 c =
     child_held c.args.self c.args.number c.child-side-extent.result c.part.result c.part-2.result c.part-3.result
     c.if-number-ge-CHILDREN.false c.if-self-ge-FINEST.false c.child-side-extent.ensures c.part.ensures c.part-2.ensures c.part-3.ensures
 

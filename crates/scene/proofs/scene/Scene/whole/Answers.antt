@@ -5,8 +5,8 @@ use Rattle.scene.proofs.Listings.{listing_ordered, listing_short}
 use Rattle.scene.proofs.Wholes.{evaluable}
 use Rattle.scene.proofs.scene.Scene.whole.Goals as goal
 
-pub invariant-of-result : goal.invariant-of-result
-invariant-of-result g c =
+pub invariant_of-result : goal.invariant_of-result
+invariant_of-result g c =
     let s = c.args.self.now in
     let solids = length s.solids.now in
     let joints = length s.joints.now in
