@@ -2,8 +2,8 @@ use Rattle.std.proofs.Common.{arith}
 use Rattle.cells.proofs.Casts.{place_is, place_few}
 use Rattle.cells.proofs.cells.place_toward.Goals as goal
 
-pub overflow-cast-result : goal.overflow-cast-result
-overflow-cast-result c =
+pub overflow_cast-result : goal.overflow_cast-result
+overflow_cast-result c =
     let few = place_few c.args.extent c.abs-diff.result c.args.low c.args.a c.requires.0 c.requires.1 c.ranges.low c.ranges.a c.abs-diff.ensures in
     omega arith
 

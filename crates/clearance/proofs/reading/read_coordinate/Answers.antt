@@ -11,18 +11,18 @@ negated n small = omega (arith, ints)
 kept : (n : ℕ) → n < 100000 → to_z w32 n ≡ pos n
 kept n small = omega (arith, ints)
 
-pub overflow-cast-result : goal.overflow-cast-result
-overflow-cast-result c =
+pub overflow_cast-result : goal.overflow_cast-result
+overflow_cast-result c =
     let small : c.in-Some-read-number.n < 100000 = number_small _ _ (sym c.in-Some-read-number.ensures) in
     search rules
 
-pub overflow-sub-result : goal.overflow-sub-result
-overflow-sub-result c =
+pub overflow_sub-result : goal.overflow_sub-result
+overflow_sub-result c =
     let small : c.in-Some-read-number.n < 100000 = number_small _ _ (sym c.in-Some-read-number.ensures) in
     search rules
 
-pub overflow-cast-result-in-Some-read-number-2 : goal.overflow-cast-result-in-Some-read-number-2
-overflow-cast-result-in-Some-read-number-2 c =
+pub overflow_cast-result-in-Some-read-number-2 : goal.overflow_cast-result-in-Some-read-number-2
+overflow_cast-result-in-Some-read-number-2 c =
     let small : c.in-Some-read-number-2.n < 100000 = number_small _ _ (sym c.in-Some-read-number-2.ensures) in
     search rules
 

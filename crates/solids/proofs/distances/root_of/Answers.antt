@@ -6,8 +6,8 @@ use Rattle.solids.proofs.distances.root_of.Goals as goal
 small : (c : goal.After-floor-root) → c.floor-root.result ≤ 65535
 small c = omega (arith, root_small c.args.squared c.well-formed.0.1)
 
-pub overflow-cast-result : goal.overflow-cast-result
-overflow-cast-result c = let k = small c in omega (arith, ints)
+pub overflow_cast-result : goal.overflow_cast-result
+overflow_cast-result c = let k = small c in omega (arith, ints)
 
 pub returns : goal.returns
 returns c = let k = small c in record { value = omega (arith, ints); bound = omega (arith, ints) }

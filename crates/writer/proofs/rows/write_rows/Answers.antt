@@ -10,19 +10,19 @@ loop-row-init g c =
     let R = g.R.Record in
     (omega (arith, mul-zero R.size), rows_none R.written R.size g.met.R.Record.sized c.args.rows.now c.args.out.now c.args.start c.requires)
 
-pub slice-bounds-write-count : goal.slice-bounds-write-count
-slice-bounds-write-count g c =
+pub slice_bounds-write-count : goal.slice_bounds-write-count
+slice_bounds-write-count g c =
     let next = mul-le-mul_left g.R.Record.size c.loop-row-test.true in
     omega (arith, c.loop-row.invariant.0, c.loop-row.auto.out, mul-suc g.R.Record.size c.loop-row.row-index, c.requires)
 
-pub slice-bounds-write-start : goal.slice-bounds-write-start
-slice-bounds-write-start g c =
+pub slice_bounds-write-start : goal.slice_bounds-write-start
+slice_bounds-write-start g c =
     let next = mul-le-mul_left g.R.Record.size c.loop-row-test.true in
     let inside : c.loop-row.at ≤ length c.loop-row.out = omega (arith, c.loop-row.invariant.0, c.loop-row.auto.out, mul-suc g.R.Record.size c.loop-row.row-index, c.requires) in
     search rules
 
-pub overflow-add-at : goal.overflow-add-at
-overflow-add-at g c =
+pub overflow_add-at : goal.overflow_add-at
+overflow_add-at g c =
     let next = mul-le-mul_left g.R.Record.size c.loop-row-test.true in
     let inside : c.loop-row.at + c.size-size.result ≤ length c.args.out.now = omega (arith, c.loop-row.invariant.0, c.size-size.ensures, mul-suc g.R.Record.size c.loop-row.row-index, c.requires) in
     search rules

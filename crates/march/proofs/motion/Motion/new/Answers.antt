@@ -13,8 +13,8 @@ returns-in-err-from c =
     let same = as_passed (triple c.args.from) (search rules) (search rules) (search rules) in
     rw (p.1, p.2) (a_refused (triple c.args.from) (triple c.args.to) c.args.margin c.in-err-from.field-0.0 (c.in-err-from.ensures ∙ same))
 
-pub overflow-add-result : goal.overflow-add-result
-overflow-add-result c =
+pub overflow_add-result : goal.overflow_add-result
+overflow_add-result c =
     let same = as_passed (triple c.args.to) (search rules) (search rules) (search rules) in
     let few = b_place (triple c.args.from) (triple c.args.to) c.args.margin c.in-Err.refusal (c.in-Err.ensures ∙ same) in
     let is = c.place.ensures in

@@ -14,13 +14,13 @@ product-requires-3 c =
     let p = c.args.p in
     (normal_small s.normal_z s.normal_z_in, coordinate_small p.z p.z_in)
 
-pub overflow-add-result : goal.overflow-add-result
-overflow-add-result c =
+pub overflow_add-result : goal.overflow_add-result
+overflow_add-result c =
     let h = c.product.ensures.bound in
     two_fit c.product.result c.product-2.result c.product.result h c.product-2.ensures.bound h
 
-pub overflow-add-result-2 : goal.overflow-add-result-2
-overflow-add-result-2 c =
+pub overflow_add-result-2 : goal.overflow_add-result-2
+overflow_add-result-2 c =
     three_fit c.product.result c.product-2.result c.product-3.result
     c.product.ensures.bound c.product-2.ensures.bound c.product-3.ensures.bound
 

@@ -6,8 +6,8 @@ use Rattle.solids.specs.Bounds.{length_pos, length_short}
 use Rattle.solids.proofs.Casts.{numerator_fits, divided, divisor}
 use Rattle.solids.proofs.catalogue.Plane.distance.Goals as goal
 
-pub overflow-sub-along-normal : goal.overflow-sub-along-normal
-overflow-sub-along-normal c =
+pub overflow_sub-along-normal : goal.overflow_sub-along-normal
+overflow_sub-along-normal c =
     let s = c.args.self.now in
     numerator_fits c.along_normal.result s.offset (along_normal s (at c.args.p)) s.length
     c.along_normal.ensures.value c.along_normal.ensures.bound s.offset_in (length_short s)

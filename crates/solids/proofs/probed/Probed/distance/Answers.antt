@@ -9,8 +9,8 @@ use Rattle.solids.proofs.Casts.{less, less_fits}
 use Rattle.solids.proofs.Least.{least_first, least_next}
 use Rattle.solids.proofs.probed.Probed.distance.Goals as goal
 
-pub overflow-sub-result : goal.overflow-sub-result
-overflow-sub-result c =
+pub overflow_sub-result : goal.overflow_sub-result
+overflow_sub-result c =
     let s = c.args.self.now in
     less_fits c.root_of.result s.radius c.root_of.ensures.bound (omega (arith, s.radius_in))
 
