@@ -13,34 +13,34 @@ kept n small = omega (arith, ints)
 
 pub overflow_cast-result : goal.overflow_cast-result
 overflow_cast-result c =
-    let small : c.in-Some-read-number.n < 100000 = number_small _ _ (sym c.in-Some-read-number.ensures) in
+    let small : c.in-Some-read_number.n < 100000 = number_small _ _ (sym c.in-Some-read_number.ensures) in
     search rules
 
 pub overflow_sub-result : goal.overflow_sub-result
 overflow_sub-result c =
-    let small : c.in-Some-read-number.n < 100000 = number_small _ _ (sym c.in-Some-read-number.ensures) in
+    let small : c.in-Some-read_number.n < 100000 = number_small _ _ (sym c.in-Some-read_number.ensures) in
     search rules
 
-pub overflow_cast-result-in-Some-read-number-2 : goal.overflow_cast-result-in-Some-read-number-2
-overflow_cast-result-in-Some-read-number-2 c =
-    let small : c.in-Some-read-number-2.n < 100000 = number_small _ _ (sym c.in-Some-read-number-2.ensures) in
+pub overflow_cast-result-in-Some-read_number-2 : goal.overflow_cast-result-in-Some-read_number-2
+overflow_cast-result-in-Some-read_number-2 c =
+    let small : c.in-Some-read_number-2.n < 100000 = number_small _ _ (sym c.in-Some-read_number-2.ensures) in
     search rules
 
-pub returns-in-Some-read-number : goal.returns-in-Some-read-number
-returns-in-Some-read-number c =
+pub returns-in-Some-read_number : goal.returns-in-Some-read_number
+returns-in-Some-read_number c =
     let minus = strip_prefix_char 45 c.args.field.now (Some c.in-Some.digits) c.in-Some.ensures.cases (lit< tt) in
-    let read = c.in-Some-read-number.ensures in
+    let read = c.in-Some-read_number.ensures in
     ap (λ (z : ℤ). Some z) (negated _ (number_small _ _ (sym read)))
     ∙ ap (signed_by (λ n. neg_ℤ (pos n))) read
     ∙ sym (coordinate_minus _ _ minus)
 
-pub returns-in-Some-read-number-2 : goal.returns-in-Some-read-number-2
-returns-in-Some-read-number-2 c =
+pub returns-in-Some-read_number-2 : goal.returns-in-Some-read_number-2
+returns-in-Some-read_number-2 c =
     let plain = strip_prefix_char 45 c.args.field.now None c.in-None.ensures.cases (lit< tt) in
-    let read = c.in-Some-read-number-2.ensures in
+    let read = c.in-Some-read_number-2.ensures in
     ap (λ (z : ℤ). Some z) (kept _ (number_small _ _ (sym read))) ∙ ap (signed_by pos) read ∙ sym (coordinate_plain _ plain)
 
-pub returns-in-None-read-number-2 : goal.returns-in-None-read-number-2
-returns-in-None-read-number-2 c =
+pub returns-in-None-read_number-2 : goal.returns-in-None-read_number-2
+returns-in-None-read_number-2 c =
     let plain = strip_prefix_char 45 c.args.field.now None c.in-None.ensures.cases (lit< tt) in
-    ap (signed_by pos) c.in-None-read-number-2.ensures ∙ sym (coordinate_plain _ plain)
+    ap (signed_by pos) c.in-None-read_number-2.ensures ∙ sym (coordinate_plain _ plain)

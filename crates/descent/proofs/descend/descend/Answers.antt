@@ -15,8 +15,8 @@ pub returns-in-Some : goal.returns-in-Some
 returns-in-Some g c =
     let l = c.args.held.now in
     let P = parts g.S.Solid.dist g.J.Joint.radius g.J.Joint.fillet l.solids.now l.joints.now in
-    let r = c.in-ok-pruned.pruned in
-    let did = c.in-ok-pruned.ensures in
+    let r = c.in_ok-pruned.pruned in
+    let did = c.in_ok-pruned.ensures in
     let free = c.prune.new.free in
     let value_fits : SFits w32 r.value = search rules in
     let fits : SFits w32 c.in-Some.constant = search rules in
@@ -37,8 +37,8 @@ pub returns-in-None : goal.returns-in-None
 returns-in-None g c =
     let l = c.args.held.now in
     let P = parts g.S.Solid.dist g.J.Joint.radius g.J.Joint.fillet l.solids.now l.joints.now in
-    let r = c.in-ok-pruned.pruned in
-    let did = c.in-ok-pruned.ensures in
+    let r = c.in_ok-pruned.pruned in
+    let did = c.in_ok-pruned.ensures in
     let free = c.prune.new.free in
     let value_fits : SFits w32 r.value = search rules in
     let mark = far_mark c.args.factor (radius c.args.child.level) r.value in

@@ -7,10 +7,10 @@ use Rattle.records.proofs.catalogue.read_catalogue.Goals as goal
 
 pub returns : goal.returns
 returns c =
-    let raw = c.in-ok-raw.raw in
-    let is = c.in-ok-raw.ensures in
+    let raw = c.in_ok-raw.raw in
+    let is = c.in_ok-raw.ensures in
     let fits : Fit raw = record { x = search rules; y = search rules; z = search rules; d = search rules } in
     reads_through raw_of raw_record raw c.args.bytes.now is
     (λ s e. raw_same (raw_of s) raw (fit_of s) fits (e ∙ sym is))
-    c.read-fields.result
-    c.read-fields.ensures
+    c.read_fields.result
+    c.read_fields.ensures

@@ -27,11 +27,11 @@ no_plane raw k none (Block s) e = omega (arith, ap (λ (r : RawSolid). r.kind) e
 no_plane raw k none (Plane s) e = none s e
 no_plane raw k none (Drum s) e = omega (arith, ap (λ (r : RawSolid). r.kind) e)
 
-pub returns-in-err-read-ball : goal.returns-in-err-read-ball
-returns-in-err-read-ball c = rw c.from-residual.ensures (no_ball c.args.raw c.in-1.is c.in-err-read-ball.ensures)
+pub returns-in_err-read_ball : goal.returns-in_err-read_ball
+returns-in_err-read_ball c = rw c.from-residual.ensures (no_ball c.args.raw c.in-1.is c.in_err-read_ball.ensures)
 
-pub returns-in-err-read-block : goal.returns-in-err-read-block
-returns-in-err-read-block c = rw c.from-residual-in-err-read-block.ensures (no_block c.args.raw c.in-2.is c.in-err-read-block.ensures)
+pub returns-in_err-read_block : goal.returns-in_err-read_block
+returns-in_err-read_block c = rw c.from-residual-in_err-read_block.ensures (no_block c.args.raw c.in-2.is c.in_err-read_block.ensures)
 
-pub returns-in-err-read-plane : goal.returns-in-err-read-plane
-returns-in-err-read-plane c = rw c.from-residual-in-err-read-plane.ensures (no_plane c.args.raw c.in-3.is c.in-err-read-plane.ensures)
+pub returns-in_err-read_plane : goal.returns-in_err-read_plane
+returns-in_err-read_plane c = rw c.from-residual-in_err-read_plane.ensures (no_plane c.args.raw c.in-3.is c.in_err-read_plane.ensures)

@@ -19,6 +19,6 @@ returns c =
     ] in
     let turned : cond c.match-turned.turned 1 0 ≡ get_or bytes 1 0 =
     elim c.match-turned.branch [ in-0 w ↦ search rules | in-1-turned w ↦ search rules ] in
-    let number : u16_le c.from-le-bytes-number.result ≡ get_or bytes 2 0 ∷ get_or bytes 3 0 ∷ [] =
-    ap u16_le c.from-le-bytes-number.ensures ∙ u16_le_is _ _ low in
+    let number : u16_le c.from_le_bytes-number.result ≡ get_or bytes 2 0 ∷ get_or bytes 3 0 ∷ [] =
+    ap u16_le c.from_le_bytes-number.ensures ∙ u16_le_is _ _ low in
     cc

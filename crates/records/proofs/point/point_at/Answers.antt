@@ -12,10 +12,10 @@ use Rattle.records.proofs.point.point_at.Goals as goal
 pub returns : goal.returns
 returns c =
     let bytes = elements c.args.i 6 c.args.bytes.now in
-    let p : Pt = record { x = c.i16-at.result; y = c.i16-at-2.result; z = c.i16-at-3.result } in
-    let x : SFits w16 c.i16-at.result = search rules in
-    let y : SFits w16 c.i16-at-2.result = search rules in
-    let z : SFits w16 c.i16-at-3.result = search rules in
+    let p : Pt = record { x = c.i16_at.result; y = c.i16_at-2.result; z = c.i16_at-3.result } in
+    let x : SFits w16 c.i16_at.result = search rules in
+    let y : SFits w16 c.i16_at-2.result = search rules in
+    let z : SFits w16 c.i16_at-3.result = search rules in
     let i = c.args.i in
     let two : i + 2 ≡ suc (suc i) = omega arith in
     let four : i + 4 ≡ suc (suc (suc (suc i))) = omega arith in

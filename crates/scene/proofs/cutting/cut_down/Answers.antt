@@ -25,8 +25,8 @@ loop-entry-init g c =
     subst₂ (λ st w. Halfway P p R solids joints c.args.list.now was 0 was 0 st w) (sym c.new-waiting.ensures.value) (sym c.new-waiting.ensures.none)
     (begins P p R solids joints c.args.list.now was c.requires.evaluable)
 
-pub cut-entry-written-requires : goal.cut-entry-written-requires
-cut-entry-written-requires g c =
+pub cut_entry-written-requires : goal.cut_entry-written-requires
+cut_entry-written-requires g c =
     let P = parts g.S.Solid.dist g.J.Joint.radius g.J.Joint.fillet c.args.solids.now c.args.joints.now in
     let p = at c.args.around.centre in
     let R = c.args.around.radius in
@@ -62,7 +62,7 @@ loop-entry-preserved g c =
     let e = get_or xs i (record { kind = Solid; turned = false; number = 0 }) in
     let here = symbol_here entry_symbol xs i (record { kind = Solid; turned = false; number = 0 }) c.loop-entry-test.true in
     let law = parts_lawful g.S.Solid.dist g.J.Joint.radius g.J.Joint.fillet g.met.S.Solid.near g.met.S.Solid.ranged g.met.J.Joint.smooth c.args.solids.now c.args.joints.now in
-    let did = c.cut-entry-written in
+    let did = c.cut_entry-written in
     rw add-one
     (goes_on P p R solids joints xs was i l.free l.written (items l.waiting) l.waiting.count l.invariant (entry_symbol e) here law (in_space c.args.around.centre) c.loop-entry-test.true
     did.new.free did.result (items did.new.waiting) did.new.waiting.count did.ensures.laid did.ensures.count did.ensures.grown did.ensures.len did.ensures.beyond)

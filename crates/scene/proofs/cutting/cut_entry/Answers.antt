@@ -22,16 +22,16 @@ returns-in-Solid g c =
     let e = c.args.entry in
     let n = c.args.written in
     let was = c.args.free.now in
-    let raw_fits : SFits w32 c.distance-of-raw.result = search rules in
-    let up_fits : SFits w32 c.handed-up-value.result = search rules in
+    let raw_fits : SFits w32 c.distance_of-raw.result = search rules in
+    let up_fits : SFits w32 c.handed_up-value.result = search rules in
     let symbol : entry_symbol e ≡ solid e.turned e.number = ap (λ k. entry_symbol_of k e.turned e.number) c.in-Solid.is in
-    let up : c.handed-up-value.result ≡ handed e.turned (P.distance e.number p) = c.handed-up-value.ensures ∙ ap (handed e.turned) (to_z-of_z w32 c.distance-of-raw.result raw_fits ∙ c.distance-of-raw.ensures.value) in
+    let up : c.handed_up-value.result ≡ handed e.turned (P.distance e.number p) = c.handed_up-value.ensures ∙ ap (handed e.turned) (to_z-of_z w32 c.distance_of-raw.result raw_fits ∙ c.distance_of-raw.ensures.value) in
     record {
       laid = λ trees laid.
           subst (λ s. Laid P p (cut_step P p c.args.around.radius s trees) (set was n e) (n + 1) (items c.push.new.self)) (sym symbol)
           (solid_laid P p trees e.turned e.number was (set was n e) n e (items c.args.waiting.now) (items c.push.new.self) laid symbol
           (take_more_set was n e c.requires.room)
-          (c.push.ensures.after ∙ ap (λ (v : ℤ). record { value = v; start = n } ∷ items c.args.waiting.now) (to_z-of_z w32 c.handed-up-value.result up_fits ∙ up)));
+          (c.push.ensures.after ∙ ap (λ (v : ℤ). record { value = v; start = n } ∷ items c.args.waiting.now) (to_z-of_z w32 c.handed_up-value.result up_fits ∙ up)));
       count = solid_count e c.args.waiting.now.count c.push.new.self.count c.in-Solid.is c.push.ensures.more;
       grown = omega arith;
       len = length-set was n e;

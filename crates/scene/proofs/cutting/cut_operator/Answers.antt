@@ -14,8 +14,8 @@ use Rattle.scene.proofs.Freeing.{drop_later, kept_ends}
 use Rattle.scene.proofs.Layouts.{Drops, Stays, drops_laid, stays_laid}
 use Rattle.scene.proofs.cutting.cut_operator.Goals as goal
 
-pub returns-then-drops-out : goal.returns-then-drops-out
-returns-then-drops-out g c =
+pub returns-then-drops_out : goal.returns-then-drops_out
+returns-then-drops_out g c =
     let a = c.pop-a.result in
     let b = c.pop-b.result in
     let n = c.args.written in
@@ -26,13 +26,13 @@ returns-then-drops-out g c =
     let a_fits : SFits w32 a.value = search rules in
     let b_fits : SFits w32 b.value = search rules in
     let picked_fits : SFits w32 c.pick.result = search rules in
-    let up_fits : SFits w32 c.handed-up-value.result = search rules in
-    let which : c.keeps-first-first.result ≡ keeps_first op a.value b.value = simp to_z-of_z at c.keeps-first-first.ensures in
+    let up_fits : SFits w32 c.handed_up-value.result = search rules in
+    let which : c.keeps_first-first.result ≡ keeps_first op a.value b.value = simp to_z-of_z at c.keeps_first-first.ensures in
     let rising : a.start ≤ b.start = omega (arith, stacked.1.0) in
     let ends : b.start ≤ n = omega (arith, stacked.0) in
-    let shorter : c.keep-end.result ≤ n = subst (λ e. e ≤ n) (sym c.keep-end.ensures.value) (kept_ends c.keeps-first-first.result a.start b.start n rising ends) in
+    let shorter : c.keep-end.result ≤ n = subst (λ e. e ≤ n) (sym c.keep-end.ensures.value) (kept_ends c.keeps_first-first.result a.start b.start n rising ends) in
     let picked : c.pick.result ≡ cond (keeps_first op a.value b.value) a.value b.value = simp to_z-of_z at c.pick.ensures ∙ ap (λ k. cond k a.value b.value) which in
-    let up : c.handed-up-value.result ≡ handed c.args.entry.turned (cond (keeps_first op a.value b.value) a.value b.value) = c.handed-up-value.ensures ∙ ap (handed c.args.entry.turned) (to_z-of_z w32 c.pick.result picked_fits ∙ picked) in
+    let up : c.handed_up-value.result ≡ handed c.args.entry.turned (cond (keeps_first op a.value b.value) a.value b.value) = c.handed_up-value.ensures ∙ ap (handed c.args.entry.turned) (to_z-of_z w32 c.pick.result picked_fits ∙ picked) in
     record {
       laid = λ distance centre trees laid.
           let P : Parts = with_joints g.J.Joint.radius g.J.Joint.fillet c.args.joints.now distance in
@@ -40,12 +40,12 @@ returns-then-drops-out g c =
           drops_laid P centre c.args.within c.args.blend c.args.entry.turned c.args.entry.number was n a b (items c.pop-a.new.self) trees two
           c.keep-end.new.free c.combine.new.free c.keep-end.result (record { kind = Solid; turned = false; number = 0 }) (items c.push.new.self)
           (record {
-            out = sym (simp to_z-of_z at c.drops-out.ensures) ∙ c.if-drops-out.true;
+            out = sym (simp to_z-of_z at c.drops_out.ensures) ∙ c.if-drops_out.true;
             end = c.keep-end.ensures.value ∙ ap (λ k. a.start + cond k (b.start - a.start) (n - b.start)) which;
             within = omega (arith, c.keep-end.ensures.len, shorter, c.requires.room);
             kept_front = c.keep-end.ensures.front ∙ ap (λ k. take a.start was ++ cond k (take (b.start - a.start) (drop a.start was)) (take (n - b.start) (drop b.start was))) which;
             changed = c.combine.ensures.front;
-            wait = c.push.ensures.after ∙ ap (λ (v : ℤ). record { value = v; start = a.start } ∷ items c.pop-a.new.self) (to_z-of_z w32 c.handed-up-value.result up_fits ∙ up);
+            wait = c.push.ensures.after ∙ ap (λ (v : ℤ). record { value = v; start = a.start } ∷ items c.pop-a.new.self) (to_z-of_z w32 c.handed_up-value.result up_fits ∙ up);
           });
       count = omega (arith, c.push.ensures.more, c.pop-a.ensures.fewer, c.pop-b.ensures.fewer);
       grown = omega (arith, shorter);
@@ -55,8 +55,8 @@ returns-then-drops-out g c =
           ∙ drop_later c.keep-end.new.free was n (n + 1) (omega arith) c.keep-end.ensures.beyond;
     }
 
-pub returns-else-drops-out : goal.returns-else-drops-out
-returns-else-drops-out g c =
+pub returns-else-drops_out : goal.returns-else-drops_out
+returns-else-drops_out g c =
     let a = c.pop-a.result in
     let b = c.pop-b.result in
     let n = c.args.written in
@@ -66,23 +66,23 @@ returns-else-drops-out g c =
     let wait = c.pop-b.ensures.value ∙ ap (λ w. b ∷ w) c.pop-a.ensures.value in
     let a_fits : SFits w32 a.value = search rules in
     let b_fits : SFits w32 b.value = search rules in
-    let raw_fits : SFits w32 c.joined-of-raw.result = search rules in
-    let up_fits : SFits w32 c.handed-up.result = search rules in
-    let joins : c.joined-of-raw.result ≡ joined op F a.value b.value = simp to_z-of_z at c.joined-of-raw.ensures.value in
-    let up : c.handed-up.result ≡ handed c.args.entry.turned (joined op F a.value b.value) = c.handed-up.ensures ∙ ap (handed c.args.entry.turned) (to_z-of_z w32 c.joined-of-raw.result raw_fits ∙ joins) in
+    let raw_fits : SFits w32 c.joined_of-raw.result = search rules in
+    let up_fits : SFits w32 c.handed_up.result = search rules in
+    let joins : c.joined_of-raw.result ≡ joined op F a.value b.value = simp to_z-of_z at c.joined_of-raw.ensures.value in
+    let up : c.handed_up.result ≡ handed c.args.entry.turned (joined op F a.value b.value) = c.handed_up.ensures ∙ ap (handed c.args.entry.turned) (to_z-of_z w32 c.joined_of-raw.result raw_fits ∙ joins) in
     record {
       laid = λ distance centre trees laid.
           let P : Parts = with_joints g.J.Joint.radius g.J.Joint.fillet c.args.joints.now distance in
           let two = subst (λ w. Laid P centre trees was n w) wait laid in
           stays_laid P centre c.args.within c.args.blend c.args.entry.turned c.args.entry.number was n a b (items c.pop-a.new.self) trees two
-          c.args.entry _ (items c.push-else-drops-out.new.self)
+          c.args.entry _ (items c.push-else-drops_out.new.self)
           (record {
-            in_gap = sym (simp to_z-of_z at c.drops-out.ensures) ∙ c.if-drops-out.false;
+            in_gap = sym (simp to_z-of_z at c.drops_out.ensures) ∙ c.if-drops_out.false;
             symbol = ap (λ k. entry_symbol_of k c.args.entry.turned c.args.entry.number) c.requires.kind;
             after = take_more_set was n c.args.entry c.requires.room;
-            wait = c.push-else-drops-out.ensures.after ∙ ap (λ (v : ℤ). record { value = v; start = a.start } ∷ items c.pop-a.new.self) (to_z-of_z w32 c.handed-up.result up_fits ∙ up);
+            wait = c.push-else-drops_out.ensures.after ∙ ap (λ (v : ℤ). record { value = v; start = a.start } ∷ items c.pop-a.new.self) (to_z-of_z w32 c.handed_up.result up_fits ∙ up);
           });
-      count = omega (arith, c.push-else-drops-out.ensures.more, c.pop-a.ensures.fewer, c.pop-b.ensures.fewer);
+      count = omega (arith, c.push-else-drops_out.ensures.more, c.pop-a.ensures.fewer, c.pop-b.ensures.fewer);
       grown = omega arith;
       len = length-set was n c.args.entry;
       beyond = drop-set-lt (n + 1) was n c.args.entry (omega arith);

@@ -13,16 +13,16 @@ returns-in-Union g c =
     let b = c.args.b in
     let a_fits = c.ranges.a in
     let b_fits = c.ranges.b in
-    let fits : SFits w32 c.union-of.result = search rules in
+    let fits : SFits w32 c.union_of.result = search rules in
     let j = c.index-joints-number in
-    let is = to_z-of_z w32 c.union-of.result fits ∙ (simp to_z-of_z at c.union-of.ensures) in
+    let is = to_z-of_z w32 c.union_of.result fits ∙ (simp to_z-of_z at c.union_of.ensures) in
     let F = joint_fillet g.J.Joint.fillet c.args.joints.now c.args.number in
     record {
       value =
           is
           ∙ joined_map g.J.Joint.fillet c.args.joints.now c.args.number j.result union a b c.requires.inside j.is
           ∙ ap (λ k. joined (blend_op k) F a b) (sym c.in-Union.is);
-      bound = rw is (joined_small union (g.J.Joint.fillet j.result) a b (2 ^ 30) (fillet_small (g.met.J.Joint.smooth j.result)) c.requires.a_small c.requires.b-small);
+      bound = rw is (joined_small union (g.J.Joint.fillet j.result) a b (2 ^ 30) (fillet_small (g.met.J.Joint.smooth j.result)) c.requires.a_small c.requires.b_small);
     }
 
 pub returns-in-Common : goal.returns-in-Common
@@ -31,14 +31,14 @@ returns-in-Common g c =
     let b = c.args.b in
     let a_fits = c.ranges.a in
     let b_fits = c.ranges.b in
-    let fits : SFits w32 c.common-of.result = search rules in
+    let fits : SFits w32 c.common_of.result = search rules in
     let j = c.index-joints-number in
-    let is = to_z-of_z w32 c.common-of.result fits ∙ (simp to_z-of_z at c.common-of.ensures) in
+    let is = to_z-of_z w32 c.common_of.result fits ∙ (simp to_z-of_z at c.common_of.ensures) in
     let F = joint_fillet g.J.Joint.fillet c.args.joints.now c.args.number in
     record {
       value =
           is
           ∙ joined_map g.J.Joint.fillet c.args.joints.now c.args.number j.result common a b c.requires.inside j.is
           ∙ ap (λ k. joined (blend_op k) F a b) (sym c.in-Common.is);
-      bound = rw is (joined_small common (g.J.Joint.fillet j.result) a b (2 ^ 30) (fillet_small (g.met.J.Joint.smooth j.result)) c.requires.a_small c.requires.b-small);
+      bound = rw is (joined_small common (g.J.Joint.fillet j.result) a b (2 ^ 30) (fillet_small (g.met.J.Joint.smooth j.result)) c.requires.a_small c.requires.b_small);
     }

@@ -14,5 +14,5 @@ returns g c =
     let a_fits = c.ranges.a in
     let b_fits = c.ranges.b in
     let w : c.from-2.result ≡ c.args.within = c.from-2.ensures in
-    let d : c.abs-diff.result ≡ gap c.args.a c.args.b = simp to_z-of_z at c.abs-diff.ensures in
+    let d : c.abs_diff.result ≡ gap c.args.a c.args.b = simp to_z-of_z at c.abs_diff.ensures in
     λ i. ltb (k i + 2 * w i) (d i)

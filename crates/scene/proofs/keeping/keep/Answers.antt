@@ -2,33 +2,33 @@ use Rattle.std.proofs.Common.{◌≡◌, ◌+◌, ◌-◌, true, false, cond, �
 use Rattle.scene.proofs.Freeing.{first_stays, second_moved, moved_beyond}
 use Rattle.scene.proofs.keeping.keep.Goals as goal
 
-pub returns-then-keep-first : goal.returns-then-keep-first
-returns-then-keep-first c =
+pub returns-then-keep_first : goal.returns-then-keep_first
+returns-then-keep_first c =
     let a = c.args in
     let p = c.requires in
     let xs = a.free.now in
     let up : a.second ≡ a.first + (a.second - a.first) = omega (arith, p.rising) in
     record {
-      value = up ∙ ap (λ k. a.first + cond k (a.second - a.first) (a.end - a.second)) (sym c.if-keep-first.true);
+      value = up ∙ ap (λ k. a.first + cond k (a.second - a.first) (a.end - a.second)) (sym c.if-keep_first.true);
       front =
           first_stays xs a.first a.second a.end p.rising p.ends p.within
-          ∙ ap (λ k. take a.first xs ++ cond k (take (a.second - a.first) (drop a.first xs)) (take (a.end - a.second) (drop a.second xs))) (sym c.if-keep-first.true);
+          ∙ ap (λ k. take a.first xs ++ cond k (take (a.second - a.first) (drop a.first xs)) (take (a.end - a.second) (drop a.second xs))) (sym c.if-keep_first.true);
       len = refl;
       beyond = refl;
     }
 
-pub returns-else-keep-first : goal.returns-else-keep-first
-returns-else-keep-first c =
+pub returns-else-keep_first : goal.returns-else-keep_first
+returns-else-keep_first c =
     let a = c.args in
     let p = c.requires in
     let xs = a.free.now in
-    let after = c.copy-within.ensures.after in
+    let after = c.copy_within.ensures.after in
     record {
-      value = ap (λ k. a.first + cond k (a.second - a.first) (a.end - a.second)) (sym c.if-keep-first.false);
+      value = ap (λ k. a.first + cond k (a.second - a.first) (a.end - a.second)) (sym c.if-keep_first.false);
       front =
           ap (take (a.first + (a.end - a.second))) after
           ∙ second_moved xs a.first a.second a.end p.rising p.ends p.within
-          ∙ ap (λ k. take a.first xs ++ cond k (take (a.second - a.first) (drop a.first xs)) (take (a.end - a.second) (drop a.second xs))) (sym c.if-keep-first.false);
-      len = c.copy-within.ensures.len;
+          ∙ ap (λ k. take a.first xs ++ cond k (take (a.second - a.first) (drop a.first xs)) (take (a.end - a.second) (drop a.second xs))) (sym c.if-keep_first.false);
+      len = c.copy_within.ensures.len;
       beyond = ap (drop a.end) after ∙ moved_beyond xs a.first a.second a.end p.rising p.ends p.within;
     }

@@ -40,7 +40,7 @@ returns-in-Ok g c =
     let own = c.check.new.table in
     let checked = c.in-Ok.ensures in
     let long : n ≤ length own = search rules in
-    let nodes_front = front_is own n long (λ k front. take k c.copy-nodes.new.table ≡ front) c.copy-nodes.ensures.front in
+    let nodes_front = front_is own n long (λ k front. take k c.copy_nodes.new.table ≡ front) c.copy_nodes.ensures.front in
     record {
       outcome = record {
         no_fault = subst (λ m. header_fault m S.size b (rooms_of (record { solids = c.args.solids.now; joints = c.args.joints.now; nodes = c.args.nodes.now; list = c.args.list.now })) ≡ None) c.make.ensures checked.no_fault;
@@ -49,11 +49,11 @@ returns-in-Ok g c =
         solids_are = c.fill.ensures.front ∙ solid_rows_are _ S.size S.written J.written b _ counts _ checked;
         joints_are = c.fill-in-Ok.ensures.front ∙ joint_rows_are _ S.size S.written J.written b _ counts _ checked c.size-size.result J.size c.size-size.ensures g.met.M.Make.joint_length;
         nodes_are = subst (TreeFine S.size b) (sym nodes_front) checked.tree_fine;
-        list_is = front_is own n long (λ k front. take k c.write-whole.new.list ≡ whole_entries front) c.write-whole.ensures.front ∙ ap whole_entries (sym nodes_front);
+        list_is = front_is own n long (λ k front. take k c.write_whole.new.list ≡ whole_entries front) c.write_whole.ensures.front ∙ ap whole_entries (sym nodes_front);
         solids_rest = c.fill.ensures.rest;
         joints_rest = c.fill-in-Ok.ensures.rest;
-        nodes_rest = front_is own n long (λ k front. drop k c.copy-nodes.new.table ≡ drop k c.args.nodes.now) c.copy-nodes.ensures.rest;
-        list_rest = front_is own n long (λ k front. drop k c.write-whole.new.list ≡ drop k c.args.list.now) c.write-whole.ensures.rest;
+        nodes_rest = front_is own n long (λ k front. drop k c.copy_nodes.new.table ≡ drop k c.args.nodes.now) c.copy_nodes.ensures.rest;
+        list_rest = front_is own n long (λ k front. drop k c.write_whole.new.list ≡ drop k c.args.list.now) c.write_whole.ensures.rest;
       };
       unused = tt;
     }

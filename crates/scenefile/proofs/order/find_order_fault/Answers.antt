@@ -8,7 +8,7 @@ use Rattle.tree.specs.declared.node.Node.{Node}
 use Rattle.tree.specs.declared.node.NodeKind.TheVariants.{Solid}
 use Rattle.scenefile.proofs.Orders.{solid_over, solid_on, operator_over, operator_on, end_one, end_other}
 use Rattle.scenefile.proofs.order.find_order_fault.Goals as goal
-use Rattle.scenefile.proofs.order.find_order_fault.Goals.{then-is-solid+else-waiting-ge64, else-is-solid+else-waiting-lt2}
+use Rattle.scenefile.proofs.order.find_order_fault.Goals.{then-is_solid+else-waiting-ge64, else-is_solid+else-waiting-lt2}
 
 -- the row at place i, as the loop reads it
 abbrev row : List Node → ℕ → Symbol
@@ -24,7 +24,7 @@ returns-then-waiting-ge64 c =
     record {
       value =
           solid_over (map node_symbol xs) i (row xs i) (here xs i c.loop-i-test.true) c.loop-i.waiting (order_fault 0 0 (map node_symbol xs)) c.loop-i.invariant.0
-          (sym c.if-is-solid.ensures) c.if-waiting-ge64.true;
+          (sym c.if-is_solid.ensures) c.if-waiting-ge64.true;
       bound = omega (arith, c.loop-i-test.true);
     }
 
@@ -35,7 +35,7 @@ returns-then-waiting-lt2 c =
     record {
       value =
           operator_over (map node_symbol xs) i (row xs i) (here xs i c.loop-i-test.true) c.loop-i.waiting (order_fault 0 0 (map node_symbol xs)) c.loop-i.invariant.0
-          (sym c.if-is-solid.ensures) c.if-waiting-lt2.true;
+          (sym c.if-is_solid.ensures) c.if-waiting-lt2.true;
       bound = omega (arith, c.loop-i-test.true);
     }
 
@@ -46,15 +46,15 @@ loop-i-preserved c =
     let l = map node_symbol xs in
     let o = order_fault 0 0 l in
     let at = here xs i c.loop-i-test.true in
-    elim c.if-is-solid.branch [
+    elim c.if-is_solid.branch [
       | then-is-solid+else-waiting-ge64 w ↦
           rw w.waiting-is (
-            solid_on l i (row xs i) at c.loop-i.waiting o c.loop-i.invariant.0 (sym c.is_solid.ensures ∙ w.if-is-solid.true) w.if-waiting-ge64.false,
+            solid_on l i (row xs i) at c.loop-i.waiting o c.loop-i.invariant.0 (sym c.is_solid.ensures ∙ w.if-is_solid.true) w.if-waiting-ge64.false,
             omega (arith, w.if-waiting-ge64.false),
           )
       | else-is-solid+else-waiting-lt2 w ↦
           rw w.waiting-is (
-            operator_on l i (row xs i) at c.loop-i.waiting o c.loop-i.invariant.0 (sym c.is_solid.ensures ∙ w.if-is-solid.false) w.if-waiting-lt2.false,
+            operator_on l i (row xs i) at c.loop-i.waiting o c.loop-i.invariant.0 (sym c.is_solid.ensures ∙ w.if-is_solid.false) w.if-waiting-lt2.false,
             omega (arith, c.loop-i.invariant.1),
           )
     ]

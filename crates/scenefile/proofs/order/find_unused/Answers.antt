@@ -3,4 +3,4 @@ use Rattle.tree.specs.Rows.{node_symbol}
 use Rattle.scenefile.proofs.order.find_unused.Goals as goal
 
 pub loop-s-preserved : goal.loop-s-preserved
-loop-s-preserved c = rw add-one (ap₂ ◌&&◌ (sym c.some-named.ensures ∙ c.if-not-some-named.false) c.loop-s.invariant)
+loop-s-preserved c = rw add-one (ap₂ ◌&&◌ (sym c.some_named.ensures ∙ c.if-not-some_named.false) c.loop-s.invariant)

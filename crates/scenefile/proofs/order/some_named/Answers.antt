@@ -8,13 +8,13 @@ use Rattle.tree.specs.declared.node.NodeKind.TheVariants.{Solid}
 use Rattle.scenefile.proofs.Orders.{named_here, named_on, named_end}
 use Rattle.scenefile.proofs.order.some_named.Goals as goal
 
-pub returns-then-is-named : goal.returns-then-is-named
-returns-then-is-named c =
+pub returns-then-is_named : goal.returns-then-is_named
+returns-then-is_named c =
     let xs = c.args.nodes.now in
     let i = c.loop-node.node-index in
     let d : Node = record { kind = Solid; turned = false; number = 0 } in
     named_here (map node_symbol xs) i (node_symbol (get_or xs i d)) (symbol_here node_symbol xs i d c.loop-node-test.true) c.args.solid (names c.args.solid (map node_symbol xs)) c.loop-node.invariant
-    (sym c.is_named.ensures ∙ c.if-is-named.true)
+    (sym c.is_named.ensures ∙ c.if-is_named.true)
 
 pub loop-node-preserved : goal.loop-node-preserved
 loop-node-preserved c =
@@ -22,7 +22,7 @@ loop-node-preserved c =
     let i = c.loop-node.node-index in
     let d : Node = record { kind = Solid; turned = false; number = 0 } in
     named_on (map node_symbol xs) i (node_symbol (get_or xs i d)) (symbol_here node_symbol xs i d c.loop-node-test.true) c.args.solid (names c.args.solid (map node_symbol xs)) c.loop-node.invariant
-    (sym c.is_named.ensures ∙ c.if-is-named.false)
+    (sym c.is_named.ensures ∙ c.if-is_named.false)
 
 pub returns : goal.returns
 returns c =

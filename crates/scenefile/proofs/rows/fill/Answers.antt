@@ -8,7 +8,7 @@ pub loop-i-preserved : goal.loop-i-preserved
 loop-i-preserved g c =
     let i = c.loop-i.i in
     let table = c.loop-i.table in
-    elim c.match-read-row.branch [
+    elim c.match-read_row.branch [
       | in-Some w ↦
           let within : i < length table = omega (arith, c.loop-i.auto.table, c.loop-i-test.true, c.requires.room) in
           rw w.table-is (

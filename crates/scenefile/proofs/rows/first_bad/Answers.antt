@@ -8,7 +8,7 @@ loop-i-preserved g c =
     let written = g.R.Record.written in
     let bytes = c.args.bytes.now in
     below_more (λ k. Nobodys written (row bytes c.args.start g.R.Record.size k) → ⊥) c.loop-i.i c.loop-i.invariant
-    (somebodys written (row bytes c.args.start g.R.Record.size c.loop-i.i) c.read-row.result c.read-row.ensures c.if-is-none.ensures)
+    (somebodys written (row bytes c.args.start g.R.Record.size c.loop-i.i) c.read_row.result c.read_row.ensures c.if-is_none.ensures)
 
 pub returns : goal.returns
 returns g c k h = c.loop-i.invariant k (omega (arith, c.loop-i-test.false))

@@ -4,7 +4,7 @@ use Rattle.scenefile.proofs.Entries.{cut_next_at, cut_next_end}
 use Rattle.scenefile.proofs.whole.cut_after.Goals as goal
 
 pub returns-then-i-nodes : goal.returns-then-i-nodes
-returns-then-i-nodes c = c.is-cut.ensures ∙ cut_next_at c.args.nodes.now (c.args.i + 1) (record { kind = Solid; turned = false; number = 0 }) c.if-i-nodes.true
+returns-then-i-nodes c = c.is_cut.ensures ∙ cut_next_at c.args.nodes.now (c.args.i + 1) (record { kind = Solid; turned = false; number = 0 }) c.if-i-nodes.true
 
 pub returns-else-i-nodes : goal.returns-else-i-nodes
 returns-else-i-nodes c =

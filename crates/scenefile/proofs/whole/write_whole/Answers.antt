@@ -13,10 +13,10 @@ loop-i-preserved c =
     let list = c.loop-i.list in
     let d : Node = record { kind = Solid; turned = false; number = 0 } in
     let within : i < length list = omega (arith, c.loop-i.auto.list, c.loop-i-test.true, c.requires) in (
-      entries_more nodes list i d c.entry-of.result c.loop-i-test.true within
-          (c.entry-of.ensures ∙ ap (λ b. node_entry b (get_or nodes i d)) c.cut-after.ensures)
+      entries_more nodes list i d c.entry_of.result c.loop-i-test.true within
+          (c.entry_of.ensures ∙ ap (λ b. node_entry b (get_or nodes i d)) c.cut_after.ensures)
           c.loop-i.invariant.0,
-      drop_set list i (length nodes) c.entry-of.result c.loop-i-test.true ∙ c.loop-i.invariant.1,
+      drop_set list i (length nodes) c.entry_of.result c.loop-i-test.true ∙ c.loop-i.invariant.1,
     )
 
 pub returns : goal.returns

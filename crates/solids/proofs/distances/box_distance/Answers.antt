@@ -16,8 +16,8 @@ returns-else-greatest-le0 c =
     let t = c.max-greatest.result in
     record {
       value = outside c.args.x c.args.y c.args.z a t c.ranges.x c.ranges.y c.ranges.z (record { sfits = c.max.type-inv }) c.max.ensures.value c.max-greatest.ensures.value
-          c.positive_square.result c.positive-square-else-greatest-le0.result c.positive-square-else-greatest-le0-2.result c.root_of.result
-          c.positive_square.ensures.value c.positive-square-else-greatest-le0.ensures.value c.positive-square-else-greatest-le0-2.ensures.value c.root_of.ensures.value
+          c.positive_square.result c.positive_square-else-greatest-le0.result c.positive_square-else-greatest-le0-2.result c.root_of.result
+          c.positive_square.ensures.value c.positive_square-else-greatest-le0.ensures.value c.positive_square-else-greatest-le0-2.ensures.value c.root_of.ensures.value
           (record { sfits = c.max-greatest.type-inv }) (record { sfits = c.root_of.type-inv }) c.if-greatest-le0.false;
       bound = read_bound c.root_of.result c.root_of.ensures.bound;
     }

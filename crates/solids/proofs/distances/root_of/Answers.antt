@@ -3,7 +3,7 @@ use Rattle.std.proofs.lemmas.Int.{ints}
 use Rattle.solids.specs.Bounds.{root_small}
 use Rattle.solids.proofs.distances.root_of.Goals as goal
 
-small : (c : goal.After-floor-root) → c.floor-root.result ≤ 65535
+small : (c : goal.After-floor_root) → c.floor_root.result ≤ 65535
 small c = omega (arith, root_small c.args.squared c.well-formed.0.1)
 
 pub overflow_cast-result : goal.overflow_cast-result

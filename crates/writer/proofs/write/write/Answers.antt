@@ -24,8 +24,8 @@ returns g c =
     let scene = c.args.scene.now in
     record {
       answer = answer g.M.Make.make S.size J.size S.written J.written g.met.Solid.Record.sized g.met.Joint.Record.sized g.met.M.Make.joint_length scene.solids.now scene.joints.now scene.nodes.now c.size-size.result c.size-size.ensures c.args.out.now c.if-out-end.false;
-      after = laid_file g.M.Make.make S.size J.size S.written J.written g.met.Solid.Record.sized g.met.Joint.Record.sized g.met.M.Make.joint_length scene.solids.now scene.joints.now scene.nodes.now c.size-size.result c.size-size.ensures c.args.out.now c.if-out-end.false c.header-head.result _ c.write-rows.new.out c.write-rows-2.new.out c.write-rows-3.new.out
+      after = laid_file g.M.Make.make S.size J.size S.written J.written g.met.Solid.Record.sized g.met.Joint.Record.sized g.met.M.Make.joint_length scene.solids.now scene.joints.now scene.nodes.now c.size-size.result c.size-size.ensures c.args.out.now c.if-out-end.false c.header-head.result _ c.write_rows.new.out c.write_rows-2.new.out c.write_rows-3.new.out
           (c.header-head.ensures ∙ ap₂ (λ m z. header_bytes m z (length scene.solids.now) (length scene.joints.now) (length scene.nodes.now)) c.make.ensures c.size-size.ensures)
-          (ap (λ h. h ++ drop 20 c.args.out.now) c.copy-from-slice.ensures.after) c.write-rows.ensures c.write-rows-2.ensures c.write-rows-3.ensures;
+          (ap (λ h. h ++ drop 20 c.args.out.now) c.copy_from_slice.ensures.after) c.write_rows.ensures c.write_rows-2.ensures c.write_rows-3.ensures;
       again = λ rooms room. reads-back S.size S.written J.written g.met.Solid.Record.sized (λ x. g.met.Joint.Record.sized x ∙ g.met.M.Make.joint_length) g.met.Solid.Record.apart g.met.Joint.Record.apart g.M.Make.make rooms scene.solids.now scene.joints.now scene.nodes.now (storable scene.solids.now scene.joints.now scene.nodes.now scene.few_solids scene.few_joints scene.few_nodes scene.named scene.ordered scene.used) room;
     }

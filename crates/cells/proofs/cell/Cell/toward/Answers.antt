@@ -10,17 +10,17 @@ returns-then-self-ge-FINEST c =
       | then-self-ge-FINEST-via-else-self-ge-FINEST+then-not-contains w ↦ no_point c.args.self c.args.p (sym w.if-not-contains.ensures)
     ]
 
-pub place-toward-first-requires : goal.place-toward-first-requires
-place-toward-first-requires c = toward_x c.args.self c.args.p c.child-side-extent.result c.if-self-ge-FINEST.false c.if-not-contains.ensures c.child-side-extent.ensures
+pub place_toward-first-requires : goal.place_toward-first-requires
+place_toward-first-requires c = toward_x c.args.self c.args.p c.child_side-extent.result c.if-self-ge-FINEST.false c.if-not-contains.ensures c.child_side-extent.ensures
 
-pub place-toward-second-requires : goal.place-toward-second-requires
-place-toward-second-requires c = toward_y c.args.self c.args.p c.child-side-extent.result c.if-self-ge-FINEST.false c.if-not-contains.ensures c.child-side-extent.ensures
+pub place_toward-second-requires : goal.place_toward-second-requires
+place_toward-second-requires c = toward_y c.args.self c.args.p c.child_side-extent.result c.if-self-ge-FINEST.false c.if-not-contains.ensures c.child_side-extent.ensures
 
-pub place-toward-third-requires : goal.place-toward-third-requires
-place-toward-third-requires c = toward_z c.args.self c.args.p c.child-side-extent.result c.if-self-ge-FINEST.false c.if-not-contains.ensures c.child-side-extent.ensures
+pub place_toward-third-requires : goal.place_toward-third-requires
+place_toward-third-requires c = toward_z c.args.self c.args.p c.child_side-extent.result c.if-self-ge-FINEST.false c.if-not-contains.ensures c.child_side-extent.ensures
 
 pub returns : goal.returns
 returns c =
-    toward_is c.args.self c.args.p c.child-side-extent.result c.if-self-ge-FINEST.false c.if-not-contains.ensures c.child-side-extent.ensures
-    c.place-toward-first.result c.place-toward-second.result c.place-toward-third.result
-    c.place-toward-first.ensures.value c.place-toward-second.ensures.value c.place-toward-third.ensures.value
+    toward_is c.args.self c.args.p c.child_side-extent.result c.if-self-ge-FINEST.false c.if-not-contains.ensures c.child_side-extent.ensures
+    c.place_toward-first.result c.place_toward-second.result c.place_toward-third.result
+    c.place_toward-first.ensures.value c.place_toward-second.ensures.value c.place_toward-third.ensures.value

@@ -10,4 +10,4 @@ pub overflow_cast-result : goal.overflow_cast-result
 overflow_cast-result c =
     let r = c.args.self.now.0 in
     let half = (soft_law r.k r.positive r.limited).half c.args.gap in
-    simp c.saturating-sub-m.ensures (omega arith)
+    simp c.saturating_sub-m.ensures (omega arith)

@@ -7,11 +7,11 @@ use Rattle.march.proofs.Outside.{as_passed, margin_inside, margin_below, margin_
 use Rattle.march.proofs.motion.Motion.new.Goals as goal
 use Rattle.march.proofs.motion.Motion.new.Goals.{then-margin-lt0-via-then-margin-lt0, then-margin-lt0-via-else-margin-lt0+then-margin-gt4095}
 
-pub returns-in-err-from : goal.returns-in-err-from
-returns-in-err-from c =
+pub returns-in_err-from : goal.returns-in_err-from
+returns-in_err-from c =
     let p = err_from_is_err_and c.from-residual.result c.from-residual.ensures.1 in
     let same = as_passed (triple c.args.from) (search rules) (search rules) (search rules) in
-    rw (p.1, p.2) (a_refused (triple c.args.from) (triple c.args.to) c.args.margin c.in-err-from.field-0.0 (c.in-err-from.ensures ∙ same))
+    rw (p.1, p.2) (a_refused (triple c.args.from) (triple c.args.to) c.args.margin c.in_err-from.field-0.0 (c.in_err-from.ensures ∙ same))
 
 pub overflow_add-result : goal.overflow_add-result
 overflow_add-result c =
@@ -24,7 +24,7 @@ pub returns-in-Err : goal.returns-in-Err
 returns-in-Err c =
     let from_same = as_passed (triple c.args.from) (search rules) (search rules) (search rules) in
     let to_same = as_passed (triple c.args.to) (search rules) (search rules) (search rules) in
-    b_refused (triple c.args.from) (triple c.args.to) c.args.margin (at c.in-ok-from.from) (c.in-ok-from.ensures ∙ from_same) c.in-Err.refusal c.place.result (c.in-Err.ensures ∙ to_same) c.place.ensures
+    b_refused (triple c.args.from) (triple c.args.to) c.args.margin (at c.in_ok-from.from) (c.in_ok-from.ensures ∙ from_same) c.in-Err.refusal c.place.result (c.in-Err.ensures ∙ to_same) c.place.ensures
 
 pub returns-then-margin-lt0 : goal.returns-then-margin-lt0
 returns-then-margin-lt0 c =
@@ -36,7 +36,7 @@ returns-then-margin-lt0 c =
       | then-margin-lt0-via-then-margin-lt0 w ↦ margin_below m c.ranges.margin w.if-margin-lt0.true
       | then-margin-lt0-via-else-margin-lt0+then-margin-gt4095 w ↦ margin_above m c.ranges.margin w.if-margin-gt4095.true
     ] in
-    margin_refused (triple c.args.from) (triple c.args.to) m (at c.in-ok-from.from) (c.in-ok-from.ensures ∙ from_same) (at c.in-Ok.point) (c.in-Ok.ensures ∙ to_same) wrong
+    margin_refused (triple c.args.from) (triple c.args.to) m (at c.in_ok-from.from) (c.in_ok-from.ensures ∙ from_same) (at c.in-Ok.point) (c.in-Ok.ensures ∙ to_same) wrong
 
 pub returns : goal.returns
 returns c =
@@ -44,4 +44,4 @@ returns c =
     let to_same = as_passed (triple c.args.to) (search rules) (search rules) (search rules) in
     let m = c.args.margin in
     let fine = margin_inside m c.ranges.margin c.if-margin-lt0.false c.if-margin-gt4095.false in
-    granted (triple c.args.from) (triple c.args.to) m (at c.in-ok-from.from) (c.in-ok-from.ensures ∙ from_same) (at c.in-Ok.point) (c.in-Ok.ensures ∙ to_same) (nat_abs (to_z w32 (of_z w32 m))) (ap nat_abs (to_z-of_z w32 m c.ranges.margin)) fine
+    granted (triple c.args.from) (triple c.args.to) m (at c.in_ok-from.from) (c.in_ok-from.ensures ∙ from_same) (at c.in-Ok.point) (c.in-Ok.ensures ∙ to_same) (nat_abs (to_z w32 (of_z w32 m))) (ap nat_abs (to_z-of_z w32 m c.ranges.margin)) fine

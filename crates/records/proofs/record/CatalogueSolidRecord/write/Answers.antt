@@ -4,4 +4,4 @@ use Rattle.records.proofs.record.CatalogueSolidRecord.write.Goals as goal
 
 pub returns : goal.returns
 returns c =
-    c.put-bytes.ensures ∙ ap (λ bytes. put bytes c.args.out.now) c.catalogue-bytes.ensures
+    c.put_bytes.ensures ∙ ap (λ bytes. put bytes c.args.out.now) c.catalogue_bytes.ensures

@@ -4,4 +4,4 @@ use Rattle.records.proofs.record.ProbedRecord.write.Goals as goal
 
 pub returns : goal.returns
 returns c =
-    c.put-bytes.ensures ∙ ap (λ bytes. put bytes c.args.out.now) c.probed-bytes.ensures
+    c.put_bytes.ensures ∙ ap (λ bytes. put bytes c.args.out.now) c.probed_bytes.ensures

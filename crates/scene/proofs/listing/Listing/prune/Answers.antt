@@ -10,8 +10,8 @@ use Rattle.scene.proofs.Same.{says_the_same}
 use Rattle.scene.proofs.Tables.{in_space}
 use Rattle.scene.proofs.listing.Listing.prune.Goals as goal
 
-pub cut-down-requires : goal.cut-down-requires
-cut-down-requires g c =
+pub cut_down-requires : goal.cut_down-requires
+cut_down-requires g c =
     let l = c.args.self.now in
     record {
       evaluable = listing_evaluable (length l.solids.now) (length l.joints.now) l.list.now l.named l.ordered l.short;
@@ -27,8 +27,8 @@ returns g c =
     let law = parts_lawful g.S.Solid.dist g.J.Joint.radius g.J.Joint.fillet g.met.S.Solid.near g.met.S.Solid.ranged g.met.J.Joint.smooth l.solids.now l.joints.now in
     let ready : Evaluable solids joints (map entry_symbol l.list.now) = listing_evaluable solids joints l.list.now l.named l.ordered l.short in
     record {
-      outcome = (c.if-free-self.false, c.cut-down.ensures.cut);
-      same = says_the_same P law (at c.args.around.centre) c.args.around.radius l.list.now c.cut-down.new.free c.cut-down.result (in_space c.args.around.centre) c.cut-down.ensures.cut;
-      rest = c.cut-down.ensures.rest;
-      again = pruned_evaluable solids joints P (at c.args.around.centre) c.args.around.radius l.list.now c.cut-down.new.free c.cut-down.result ready c.cut-down.ensures.cut;
+      outcome = (c.if-free-self.false, c.cut_down.ensures.cut);
+      same = says_the_same P law (at c.args.around.centre) c.args.around.radius l.list.now c.cut_down.new.free c.cut_down.result (in_space c.args.around.centre) c.cut_down.ensures.cut;
+      rest = c.cut_down.ensures.rest;
+      again = pruned_evaluable solids joints P (at c.args.around.centre) c.args.around.radius l.list.now c.cut_down.new.free c.cut_down.result ready c.cut_down.ensures.cut;
     }

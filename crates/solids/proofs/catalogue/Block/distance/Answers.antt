@@ -3,8 +3,8 @@ use Rattle.solids.specs.Block.{box_distance}
 use Rattle.solids.proofs.Casts.{excess_passed, excess_back, less, boxed}
 use Rattle.solids.proofs.catalogue.Block.distance.Goals as goal
 
-pub box-distance-requires : goal.box-distance-requires
-box-distance-requires c =
+pub box_distance-requires : goal.box_distance-requires
+box_distance-requires c =
     let s = c.args.self.now in
     let p = c.args.p in
     let q = s.centre in (

@@ -6,14 +6,14 @@ use Rattle.solids.specs.Bounds.{length_pos, length_short}
 use Rattle.solids.proofs.Casts.{numerator_fits, divided, divisor}
 use Rattle.solids.proofs.catalogue.Plane.distance.Goals as goal
 
-pub overflow_sub-along-normal : goal.overflow_sub-along-normal
-overflow_sub-along-normal c =
+pub overflow_sub-along_normal : goal.overflow_sub-along_normal
+overflow_sub-along_normal c =
     let s = c.args.self.now in
     numerator_fits c.along_normal.result s.offset (along_normal s (at c.args.p)) s.length
     c.along_normal.ensures.value c.along_normal.ensures.bound s.offset_in (length_short s)
 
-pub div-euclid-requires : goal.div-euclid-requires
-div-euclid-requires c =
+pub div_euclid-requires : goal.div_euclid-requires
+div_euclid-requires c =
     let s = c.args.self.now in
     divisor s.length _ (length_pos s) (length_short s)
 
@@ -21,8 +21,8 @@ pub returns : goal.returns
 unfolding plane_distance
 returns c =
     let s = c.args.self.now in
-    let q = c.div-euclid.result in
-    let fits : SFits w32 q = record { sfits = c.div-euclid.type-inv } in
+    let q = c.div_euclid.result in
+    let fits : SFits w32 q = record { sfits = c.div_euclid.type-inv } in
     to_z-of_z w32 q fits
     ∙ divided c.along_normal.result s.offset (along_normal s (at c.args.p)) s.length
-    c.along_normal.ensures.value c.along_normal.ensures.bound s.offset_in (length_short s) q c.div-euclid.ensures
+    c.along_normal.ensures.value c.along_normal.ensures.bound s.offset_in (length_short s) q c.div_euclid.ensures

@@ -19,7 +19,7 @@ loop-i-init c =
     let f : Point → ℕ = λ v. root (apart² (at c.args.p) (at v)) in
     let xs = c.args.self.now.centres in
     let long : length xs ≡ 8 = search rules in
-    ap root c.squared-distance-near.ensures ∙ least_first f c.index-self-0.result xs (omega arith)
+    ap root c.squared_distance-near.ensures ∙ least_first f c.index-self-0.result xs (omega arith)
 
 pub loop-i-preserved : goal.loop-i-preserved
 loop-i-preserved c =
@@ -29,8 +29,8 @@ loop-i-preserved c =
     let long : length s.centres ≡ 8 = search rules in
     let within : i < length s.centres = omega (arith, c.loop-i-test.true, s.count_in) in
     ap root c.min_near.ensures
-    ∙ root_min c.loop-i.near c.squared-distance.result
-    ∙ ap₂ min c.loop-i.invariant (ap root c.squared-distance.ensures)
+    ∙ root_min c.loop-i.near c.squared_distance.result
+    ∙ ap₂ min c.loop-i.invariant (ap root c.squared_distance.ensures)
     ∙ sym (least_next f c.index-self-i.result s.centres i c.loop-i.auto.i within)
 
 pub returns : goal.returns
