@@ -86,10 +86,7 @@ module _ (a b c : ℤ) (h : nat_abs a ≤ 33554432) (i : nat_abs b ≤ 33554432)
   pub sum_small : nat_abs (read_32 (read_32 (read_32 a +ℤ read_32 b) +ℤ read_32 c)) ≤ 100663296
   sum_small = omega (arith, ints)
 
--- the divisor and the quotient of a plane
-pub divisor : (m z : ℕ) → 0 < m → m < 65536 → record { nonzero : 0 < of_z w32 (to_z w32 m); fits : of_z w32 (to_z w32 m) ≡ 4294967295 → z ≡ 2147483648 → ⊥ }
-divisor m z h k = let e : of_z w32 (to_z w32 m) ≡ m = of_z-to_z w32 m (omega arith) in record { nonzero = rw e h; fits = λ p _. omega arith }
-
+-- the quotient of a plane
 module _ (r o n : ℤ) (m : ℕ) (e : r ≡ n) (small : nat_abs r ≤ 100663296) (offset : nat_abs o ≤ 16384 * m) (long : m < 65536) where
   numerator : read_32 (read_32 r -ℤ read_32 o) ≡ n -ℤ o
   numerator = omega (arith, ints)

@@ -9,7 +9,7 @@ pub returns : goal.returns
 returns c =
     let bytes = c.args.bytes.now in
     let all = elements_all 4 bytes (search rules) in
-    let low : get_or bytes 2 0 < 256 = omega (arith, c.type-inv.bytes 2) in
+    let low : get_or bytes 2 0 < 256 = omega (arith, c.type_inv.bytes 2) in
     let kind : kind_number c.match-kind.kind ≡ get_or bytes 0 0 =
     elim c.match-kind.branch [
       | in-1 w ↦ search rules

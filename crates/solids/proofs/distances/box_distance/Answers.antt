@@ -6,8 +6,8 @@ returns-then-greatest-le0 c =
     let a = c.max.result in
     let t = c.max-greatest.result in
     record {
-      value = inside c.args.x c.args.y c.args.z a t c.ranges.x c.ranges.y c.ranges.z (record { sfits = c.max.type-inv }) c.max.ensures.value c.max-greatest.ensures.value (record { sfits = c.max-greatest.type-inv }) c.if-greatest-le0.true;
-      bound = inside_small c.args.x c.args.y c.args.z a t c.ranges.x c.ranges.y c.ranges.z (record { sfits = c.max.type-inv }) c.max.ensures.value c.max-greatest.ensures.value c.requires.0 c.requires.1.0 c.requires.1.1;
+      value = inside c.args.x c.args.y c.args.z a t c.ranges.x c.ranges.y c.ranges.z (record { sfits = c.max.type_inv }) c.max.ensures.value c.max-greatest.ensures.value (record { sfits = c.max-greatest.type_inv }) c.if-greatest-le0.true;
+      bound = inside_small c.args.x c.args.y c.args.z a t c.ranges.x c.ranges.y c.ranges.z (record { sfits = c.max.type_inv }) c.max.ensures.value c.max-greatest.ensures.value c.requires.0 c.requires.1.0 c.requires.1.1;
     }
 
 pub returns-else-greatest-le0 : goal.returns-else-greatest-le0
@@ -15,9 +15,9 @@ returns-else-greatest-le0 c =
     let a = c.max.result in
     let t = c.max-greatest.result in
     record {
-      value = outside c.args.x c.args.y c.args.z a t c.ranges.x c.ranges.y c.ranges.z (record { sfits = c.max.type-inv }) c.max.ensures.value c.max-greatest.ensures.value
+      value = outside c.args.x c.args.y c.args.z a t c.ranges.x c.ranges.y c.ranges.z (record { sfits = c.max.type_inv }) c.max.ensures.value c.max-greatest.ensures.value
           c.positive_square.result c.positive_square-else-greatest-le0.result c.positive_square-else-greatest-le0-2.result c.root_of.result
           c.positive_square.ensures.value c.positive_square-else-greatest-le0.ensures.value c.positive_square-else-greatest-le0-2.ensures.value c.root_of.ensures.value
-          (record { sfits = c.max-greatest.type-inv }) (record { sfits = c.root_of.type-inv }) c.if-greatest-le0.false;
+          (record { sfits = c.max-greatest.type_inv }) (record { sfits = c.root_of.type_inv }) c.if-greatest-le0.false;
       bound = read_bound c.root_of.result c.root_of.ensures.bound;
     }

@@ -23,7 +23,7 @@ returns-in-Ok g c =
     let is = c.load.new in
     let bytes = c.args.bytes.now in
     let was = c.args.out.now in
-    let small = λ (i : ℕ). (c.type-inv.bytes i).fits in
+    let small = λ (i : ℕ). (c.type_inv.bytes i).fits in
     let rooms : Rooms = record { solids = length c.args.solids.now; joints = length c.args.joints.now; nodes = length c.args.nodes.now; list = length c.args.list.now } in
     let solids = take (n.solids - 0) is.solids in
     let joints = take (n.joints - 0) is.joints in

@@ -5,6 +5,6 @@ use Rattle.gauges.proofs.whole_scene.WholeSceneGauge.quick.Goals as goal
 
 pub returns : goal.returns
 returns g c = record {
-  read = (ap Exact (to_z-of_z w32 c.sure.result (record { sfits = c.sure.type-inv }) ∙ c.sure.ensures), refl);
+  read = (ap Exact (to_z-of_z w32 c.sure.result (record { sfits = c.sure.type_inv }) ∙ c.sure.ensures), refl);
   kept = record { holding = tt; meaning = λ p. refl };
 }

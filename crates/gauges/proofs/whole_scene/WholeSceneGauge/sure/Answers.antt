@@ -11,4 +11,4 @@ returns g c =
     let s = c.args.self.now.scene.now in
     let P = parts g.S.Solid.dist g.J.Joint.radius g.J.Joint.fillet s.solids.now s.joints.now in
     let v = c.distance.result in
-    to_z-of_z w32 v (record { sfits = c.distance.type-inv }) ∙ (scene_distance_law P (map node_symbol s.nodes.now) (at c.args.p) v s.ordered).0 c.distance.ensures
+    to_z-of_z w32 v (record { sfits = c.distance.type_inv }) ∙ (scene_distance_law P (map node_symbol s.nodes.now) (at c.args.p) v s.ordered).0 c.distance.ensures

@@ -11,9 +11,9 @@ unfolding drum_distance
 returns c =
     let s = c.args.self.now in
     let m = c.max.result in
-    let fits : SFits w32 m = record { sfits = c.max.type-inv } in
+    let fits : SFits w32 m = record { sfits = c.max.type_inv } in
     to_z-of_z w32 m fits
     ∙ c.max.ensures.value
     ∙ ap₂ int_max
     (less c.root_of.result _ s.radius (c.root_of.ensures.value ∙ ap (λ n. pos (root n)) c.squared_across.ensures) c.root_of.ensures.bound (omega (arith, s.radius_in)))
-    (less_flat c.along.result s.half_height (omega (arith, c.along.type-inv)) (omega (arith, s.half_height_in)) ∙ ap (λ n. pos n -ℤ pos s.half_height) c.along.ensures)
+    (less_flat c.along.result s.half_height (omega (arith, c.along.type_inv)) (omega (arith, s.half_height_in)) ∙ ap (λ n. pos n -ℤ pos s.half_height) c.along.ensures)

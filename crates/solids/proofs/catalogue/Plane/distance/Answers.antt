@@ -12,17 +12,12 @@ overflow_sub-along_normal c =
     numerator_fits c.along_normal.result s.offset (along_normal s (at c.args.p)) s.length
     c.along_normal.ensures.value c.along_normal.ensures.bound s.offset_in (length_short s)
 
-pub div_euclid-requires : goal.div_euclid-requires
-div_euclid-requires c =
-    let s = c.args.self.now in
-    divisor s.length _ (length_pos s) (length_short s)
-
 pub returns : goal.returns
 unfolding plane_distance
 returns c =
     let s = c.args.self.now in
     let q = c.div_euclid.result in
-    let fits : SFits w32 q = record { sfits = c.div_euclid.type-inv } in
+    let fits : SFits w32 q = record { sfits = c.div_euclid.type_inv } in
     to_z-of_z w32 q fits
     ∙ divided c.along_normal.result s.offset (along_normal s (at c.args.p)) s.length
     c.along_normal.ensures.value c.along_normal.ensures.bound s.offset_in (length_short s) q c.div_euclid.ensures

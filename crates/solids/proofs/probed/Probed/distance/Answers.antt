@@ -28,7 +28,7 @@ loop-i-preserved c =
     let i = c.loop-i.i in
     let long : length s.centres ≡ 8 = search rules in
     let within : i < length s.centres = omega (arith, c.loop-i-test.true, s.count_in) in
-    ap root c.min_near.ensures
+    ap root c.min-near.ensures
     ∙ root_min c.loop-i.near c.squared_distance.result
     ∙ ap₂ min c.loop-i.invariant (ap root c.squared_distance.ensures)
     ∙ sym (least_next f c.index-self-i.result s.centres i c.loop-i.auto.i within)
