@@ -1,4 +1,5 @@
 pub mod Ball
+pub mod KindLaws
 pub mod Block
 pub mod Catalogue
 pub mod Drum

@@ -1,5 +1,4 @@
 use Rattle.std.proofs.Common.{◌∙◌, arith}
-use Rattle.solids.specs.Block.{box_distance}
 use Rattle.solids.proofs.Casts.{excess_passed, excess_back, less, boxed}
 use Rattle.solids.proofs.catalogue.Block.distance.Goals as goal
 

@@ -1,0 +1,58 @@
+-- Every solid in use keeps the distance law and the range. Assumes nothing.
+use Rattle.std.specs.Prelude.{take, pos, ◌-ℤ◌}
+use Rattle.std.proofs.Common.{arith}
+use Rattle.space.specs.At.{at}
+use Rattle.space.specs.Laws.{DistanceLaw, DistanceRange}
+use Rattle.space.specs.Pt.{apart²}
+use Rattle.space.specs.Root.{root}
+use Rattle.solids.specs.Blocks.{sharp, near_sharp, roomy_sharp}
+use Rattle.solids.specs.Catalogue.{catalogue_distance}
+use Rattle.solids.specs.Drum.{along, across², drum_distance}
+use Rattle.solids.specs.Drums.{near_across, near_along, roomy_across, roomy_along}
+use Rattle.solids.specs.Keeping.{near_less, near_max, near_root, ranged_less, ranged_max, roomy_apart, stands}
+use Rattle.solids.specs.Planes.{near_plane, ranged_plane}
+use Rattle.solids.specs.Probed.{probed_distance, least, roots}
+use Rattle.solids.specs.Probes.{near_least, roomy_least}
+use Rattle.solids.specs.declared.catalogue.CatalogueSolid.{CatalogueSolid}
+use Rattle.solids.specs.declared.catalogue.CatalogueSolid.TheVariants.{Ball, Block, Plane, Drum}
+use Rattle.solids.specs.declared.probed.Probed.{Probed}
+
+pub catalogue_near : (s : CatalogueSolid) → DistanceLaw (catalogue_distance s)
+unfolding drum_distance
+catalogue_near (Ball s) = near_less (λ p. pos (root (apart² p (at s.centre)))) s.radius (near_root (at s.centre))
+catalogue_near (Block s) = near_less (sharp s) s.radius (near_sharp s)
+catalogue_near (Plane s) = near_plane s
+catalogue_near (Drum s) =
+    let c = at s.centre in
+    near_max
+    (λ p. pos (root (across² s.axis p c)) -ℤ pos s.radius)
+    (λ p. pos (along s.axis p c) -ℤ pos s.half_height)
+    (near_less (λ p. pos (root (across² s.axis p c))) s.radius (near_across s.axis c))
+    (near_less (λ p. pos (along s.axis p c)) s.half_height (near_along s.axis c))
+
+pub catalogue_ranged : (s : CatalogueSolid) → DistanceRange (catalogue_distance s)
+unfolding drum_distance
+catalogue_ranged (Ball s) =
+    let c = at s.centre in
+    ranged_less (λ p. pos (root (apart² p c))) s.radius (roomy_apart c (stands s.centre)) s.radius_in
+catalogue_ranged (Block s) = ranged_less (sharp s) s.radius (roomy_sharp s) s.radius_in
+catalogue_ranged (Plane s) = ranged_plane s
+catalogue_ranged (Drum s) =
+    let c = at s.centre in
+    ranged_max
+    (λ p. pos (root (across² s.axis p c)) -ℤ pos s.radius)
+    (λ p. pos (along s.axis p c) -ℤ pos s.half_height)
+    (ranged_less (λ p. pos (root (across² s.axis p c))) s.radius (roomy_across s.axis c (stands s.centre)) s.radius_in)
+    (ranged_less (λ p. pos (along s.axis p c)) s.half_height (roomy_along s.axis c (stands s.centre)) s.half_height_in)
+
+pub probed_near : (s : Probed) → DistanceLaw (probed_distance s)
+unfolding probed_distance
+probed_near s =
+    let centres = take s.count s.centres in
+    near_less (λ p. pos (least (roots p centres))) s.radius (near_least centres)
+
+pub probed_ranged : (s : Probed) → DistanceRange (probed_distance s)
+unfolding probed_distance
+probed_ranged s =
+    let centres = take s.count s.centres in
+    ranged_less (λ p. pos (least (roots p centres))) s.radius (roomy_least centres) (omega (arith, s.radius_in))
