@@ -2,8 +2,8 @@ use Rattle.std.proofs.Common.{◌∙◌, w32, SFits}
 use Rattle.std.proofs.lemmas.Int.{to_z-of_z}
 use Rattle.space.specs.At.{at}
 use Rattle.solids.specs.Plane.{along_normal, plane_distance}
-use Rattle.solids.specs.Bounds.{length_pos, length_short}
-use Rattle.solids.proofs.Casts.{numerator_fits, divided, divisor}
+use Rattle.solids.specs.Bounds.{length_short}
+use Rattle.solids.proofs.Casts.{numerator_fits, divided}
 use Rattle.solids.proofs.catalogue.Plane.distance.Goals as goal
 
 pub overflow_sub-along_normal : goal.overflow_sub-along_normal
