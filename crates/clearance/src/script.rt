@@ -16,7 +16,7 @@ use space::point::Point;
 
 // The distance at a point, or the refusal of a coordinate.
 fn answer_at<S: Solid, J: Joint>(scene: &Scene<S, J>, x: i32, y: i32, z: i32) -> Answer
-    ensures { AnswersAt (parts S.Solid.dist J.Joint.radius J.Joint.fillet scene.now.solids.now scene.now.joints.now) (map node_symbol scene.now.nodes.now) (pt_outcome x y z) result }
+    ensures { AnswersAt (parts S.dist J.radius J.fillet scene.now.solids.now scene.now.joints.now) (map node_symbol scene.now.nodes.now) (pt_outcome x y z) result }
 {
     match Point::new(x, y, z) {
         Ok(p) => Answer::At(scene.distance(p)),
@@ -26,7 +26,7 @@ fn answer_at<S: Solid, J: Joint>(scene: &Scene<S, J>, x: i32, y: i32, z: i32) ->
 
 // The answer of a scene to a line.
 pub fn answer<S: Solid, J: Joint>(scene: &Scene<S, J>, line: &str) -> Answer
-    ensures { Answers (parts S.Solid.dist J.Joint.radius J.Joint.fillet scene.now.solids.now scene.now.joints.now) (map node_symbol scene.now.nodes.now) (call_of line.now) result }
+    ensures { Answers (parts S.dist J.radius J.fillet scene.now.solids.now scene.now.joints.now) (map node_symbol scene.now.nodes.now) (call_of line.now) result }
 {
     match read_call(line) {
         Some(Call::Distance(x, y, z)) => answer_at(scene, x, y, z),

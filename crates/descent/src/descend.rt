@@ -24,8 +24,8 @@ pub fn descend<S: Solid, J: Joint>(
     factor: u8,
     free: &mut [Entry],
 ) -> Result<Child, Refusal>
-    ensures outcome { DescentOutcome (parts S.Solid.dist J.Joint.radius J.Joint.fillet held.now.solids.now held.now.joints.now) factor (cube child) held.now.list.now free.old free.new result }
-    ensures says { ChildSays (parts S.Solid.dist J.Joint.radius J.Joint.fillet held.now.solids.now held.now.joints.now) factor (cube child) held.now.list.now free.new result }
+    ensures outcome { DescentOutcome (parts S.dist J.radius J.fillet held.now.solids.now held.now.joints.now) factor (cube child) held.now.list.now free.old free.new result }
+    ensures says { ChildSays (parts S.dist J.radius J.fillet held.now.solids.now held.now.joints.now) factor (cube child) held.now.list.now free.new result }
     ensures rest { RestKept held.now.list.now free.old free.new }
     ensures again { ReadyAgain (length held.now.solids.now) (length held.now.joints.now) free.new result }
 {

@@ -19,9 +19,9 @@ impl<'s, 'a, S: Solid, J: Joint> Gauge for WholeScene<'s, 'a, S, J> {
     // a scene's type says all that it must hold
     ghost holds = { λ _. Unit {0} };
 
-    ghost means = { λ w. scene_means S.Solid.dist J.Joint.radius J.Joint.fillet w.scene.now };
+    ghost means = { λ w. scene_means S.dist J.radius J.fillet w.scene.now };
 
-    ghost reads = { ExactReads (λ w. scene_means S.Solid.dist J.Joint.radius J.Joint.fillet w.scene.now) };
+    ghost reads = { ExactReads (λ w. scene_means S.dist J.radius J.fillet w.scene.now) };
 
     fn laws() -> u8 {
         0

@@ -1,7 +1,7 @@
 -- A list cut down up to place i: trees lie in the front of the free part. Assumes nothing.
-use Rattle.std.proofs.Common.{◌≡◌, ℕ, zero, suc, ◌+◌, ◌*◌, ◌^◌, ◌<◌, ◌≤◌, true, List, [], ◌∷◌, ◌++◌, map, length, take, drop, ℤ, nat_abs, sym, refl, ap, ◌∙◌, subst, arith}
+use Rattle.std.proofs.Common.{◌≡◌, ℕ, suc, ◌+◌, ◌*◌, ◌^◌, ◌<◌, ◌≤◌, true, List, [], ◌∷◌, map, length, take, drop, nat_abs, sym, refl, ap, ◌∙◌, subst, arith}
 use Rattle.space.specs.Pt.{Pt, InSpace}
-use Rattle.std.specs.List.{AllByRecursion as All}
+use Rattle.std.specs.List.{AllByRecursion}
 use Rattle.tree.proofs.CutRuns.{cut_run, cut_run_tree, cut_small, values}
 use Rattle.tree.proofs.Orders.{order_law}
 use Rattle.tree.proofs.Sizes.{Small}
@@ -9,7 +9,7 @@ use Rattle.tree.specs.CutStep.{cut_step}
 use Rattle.tree.specs.Parts.{Parts, Lawful}
 use Rattle.tree.specs.Prune.{prune}
 use Rattle.tree.specs.Rows.{entry_symbol}
-use Rattle.tree.specs.Spell.{Symbol, spell, spell_all}
+use Rattle.tree.specs.Spell.{Symbol}
 use Rattle.tree.specs.Tree.{Tree, value}
 use Rattle.tree.specs.declared.node.Entry.{Entry}
 use Rattle.scene.specs.Laid.{blocks, Laid, Stacked}
@@ -21,7 +21,7 @@ use Rattle.scene.proofs.Freeing.{drop_later}
 use Rattle.scene.proofs.Layouts.{blocks_stacked}
 use Rattle.scene.proofs.Loops.{Midway, at_start, at_finish, is_named, is_ready, next}
 
-blocks_small : (P : Parts) (c : Pt) (m k : ℕ) → m ≤ k → (trees : List Tree) → Small m (values P c trees) → All (λ b. nat_abs b.value ≤ k) (blocks P c trees)
+blocks_small : (P : Parts) (c : Pt) (m k : ℕ) → m ≤ k → (trees : List Tree) → Small m (values P c trees) → AllByRecursion (λ b. nat_abs b.value ≤ k) (blocks P c trees)
 blocks_small P c m k up [] small = tt
 blocks_small P c m k up (t ∷ trees) small = (omega (arith, small.0), blocks_small P c m k up trees small.1)
 
@@ -51,8 +51,8 @@ module _ (P : Parts) (c : Pt) (R solids joints : ℕ) (list was : List Entry) wh
     pub stacked : Stacked waiting n
     stacked = subst (λ b. Stacked b n) (sym now.laid.wait) (subst (Stacked (blocks P c now.trees)) (sym now.laid.many) (blocks_stacked P c now.trees))
 
-    pub small : 32767 + 1024 * i ≤ 2 ^ 30 → All (λ b. nat_abs b.value ≤ 2 ^ 30) waiting
-    small limit = subst (All (λ (b : Block). nat_abs b.value ≤ 2 ^ 30)) (sym now.laid.wait) (blocks_small P c (32767 + 1024 * i) (2 ^ 30) limit now.trees now.mid.small)
+    pub small : 32767 + 1024 * i ≤ 2 ^ 30 → AllByRecursion (λ b. nat_abs b.value ≤ 2 ^ 30) waiting
+    small limit = subst (AllByRecursion (λ (b : Block). nat_abs b.value ≤ 2 ^ 30)) (sym now.laid.wait) (blocks_small P c (32767 + 1024 * i) (2 ^ 30) limit now.trees now.mid.small)
 
     -- one entry more
     module _ (s : Symbol) (here : drop i (map entry_symbol list) ≡ s ∷ drop (suc i) (map entry_symbol list)) where

@@ -1,5 +1,5 @@
 -- A front of a table that is cut short, moved down, or changed in its last row. Assumes nothing.
-use Rattle.std.proofs.Common.{◌≡◌, ℕ, ◌+◌, ◌-◌, ◌<◌, ◌≤◌, Bool, true, false, cond, not, List, [], ◌∷◌, ◌++◌, length, get_or, take, drop, set, sym, refl, ap, ◌∙◌, arith, length-drop, drop-drop, drop-set-lt, take-add}
+use Rattle.std.proofs.Common.{◌≡◌, ℕ, ◌+◌, ◌-◌, ◌<◌, ◌≤◌, Bool, true, false, cond, not, List, [], ◌∷◌, ◌++◌, length, take, drop, set, sym, refl, ap, ◌∙◌, arith, length-drop, drop-drop, drop-set-lt, take-add}
 use mathlib.Core.Bool.{beq}
 use lib.Seq.{paste, take-paste, drop-paste}
 use Rattle.std.proofs.lemmas.List.{take_more_set}

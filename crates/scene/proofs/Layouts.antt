@@ -1,8 +1,8 @@
 -- Trees that lie one after another in a free part, and what dropping an operator makes of them. Assumes nothing.
-use Rattle.std.proofs.Common.{◌≡◌, ℕ, zero, suc, ◌+◌, ◌-◌, ◌*◌, ◌<◌, ◌≤◌, Bool, true, false, cond, not, ltb, List, [], ◌∷◌, ◌++◌, map, length, get_or, take, drop, ℤ, sym, refl, ap, ◌∙◌, subst, ap₂, append_assoc, arith, length-append, take_all, take-take, take_at, drop_at}
+use Rattle.std.proofs.Common.{◌≡◌, ℕ, ◌+◌, ◌-◌, ◌*◌, ◌<◌, ◌≤◌, Bool, true, false, cond, not, ltb, List, [], ◌∷◌, ◌++◌, map, length, get_or, take, drop, ℤ, sym, refl, ap, ◌∙◌, subst, ap₂, append_assoc, arith, length-append, take-take, take_at, drop_at}
 use lib.Signed.{lt_z}
 use Rattle.space.specs.Pt.{Pt}
-use Rattle.std.proofs.lemmas.List.{length-map, length-take, map-append, take-map, drop-map, drop-take, map_more, map_push, same_from_push}
+use Rattle.std.proofs.lemmas.List.{map-append, take-map, drop-map, drop-take, map_more, map_push, same_from_push}
 use Rattle.tree.proofs.Pruning.{turned_by_value}
 use Rattle.tree.proofs.Twinning.{turn_length, join_length}
 use Rattle.tree.specs.CutStep.{cut_step, pruned_operator}
@@ -10,7 +10,7 @@ use Rattle.tree.specs.Parts.{Parts}
 use Rattle.tree.specs.Prune.{turned_by, kept, pruned_join}
 use Rattle.tree.specs.Rows.{entry_symbol, entry_symbol_of, blend_op}
 use Rattle.tree.specs.Spell.{Symbol, solid, operator, spell, spell_all}
-use Rattle.tree.specs.Tree.{Op, union, common, cut, joined, gap, handed, Tree, leaf, join, turn, value}
+use Rattle.tree.specs.Tree.{Op, joined, gap, handed, Tree, leaf, join, value}
 use Rattle.tree.specs.Whole.{flipped}
 use Rattle.tree.specs.declared.node.Blend as b
 use Rattle.tree.specs.declared.node.Blend.{Blend}

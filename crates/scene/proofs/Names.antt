@@ -1,15 +1,15 @@
 -- A pruned tree names no other solid and no other joint. Assumes nothing.
-use Rattle.std.proofs.Common.{◌≡◌, ℕ, ◌+◌, ◌*◌, ◌≤◌, Bool, true, false, cond, not, ◌&&◌, ltb, List, [], ◌∷◌, ◌++◌, map, length, take, ℤ, sym, refl, ap, ◌∙◌, arith}
+use Rattle.std.proofs.Common.{◌≡◌, ℕ, ◌+◌, ◌*◌, ◌≤◌, Bool, true, false, cond, not, ltb, List, [], ◌∷◌, ◌++◌, map, length, take, ℤ, sym, refl, ap, ◌∙◌, arith}
 use lib.Signed.{lt_z}
 use Rattle.space.specs.Pt.{Pt}
 use Rattle.std.proofs.lemmas.Bool.{and_parts, and_from}
 use Rattle.tree.proofs.Orders.{order_law}
 use Rattle.tree.proofs.Smaller.{smaller_law}
-use Rattle.tree.specs.Order.{order_fault, depth}
+use Rattle.tree.specs.Order.{depth}
 use Rattle.tree.specs.Parts.{Parts}
 use Rattle.tree.specs.Prune.{turned_by, kept, pruned_join, prune}
 use Rattle.tree.specs.Rows.{entry_symbol}
-use Rattle.tree.specs.Spell.{Symbol, solid, operator, spell}
+use Rattle.tree.specs.Spell.{Symbol, operator, spell}
 use Rattle.tree.specs.Tree.{Op, union, common, cut, gap, Tree, leaf, join, turn, value}
 use Rattle.tree.specs.declared.node.Entry.{Entry}
 use Rattle.scene.specs.Lists.{named, all_named, Evaluable}

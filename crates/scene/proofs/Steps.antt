@@ -1,5 +1,5 @@
 -- One entry worked out, from what its calls answer. Assumes nothing.
-use Rattle.std.proofs.Common.{◌≡◌, ℕ, suc, pred, ◌+◌, List, [], ◌∷◌, ℤ, sym, refl, ap, ◌∙◌, arith}
+use Rattle.std.proofs.Common.{◌≡◌, ℕ, suc, pred, ◌+◌, List, ◌∷◌, ℤ, sym, ap, ◌∙◌, arith}
 use Rattle.space.specs.Pt.{Pt}
 use Rattle.tree.specs.Parts.{Parts}
 use Rattle.tree.specs.Rows.{entry_symbol, entry_symbol_of, blend_op}

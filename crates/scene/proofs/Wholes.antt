@@ -10,7 +10,7 @@ use Rattle.tree.specs.Parts.{Parts}
 use Rattle.tree.specs.Rows.{node_symbol, entry_symbol, whole_entries}
 use Rattle.tree.specs.Spell.{Symbol, solid, operator, spell}
 use Rattle.tree.specs.Tree.{Tree, value}
-use Rattle.tree.specs.Whole.{whole, whole_list, symbol_uncut, cut_first}
+use Rattle.tree.specs.Whole.{whole, whole_list, symbol_uncut}
 use Rattle.tree.specs.declared.node.Entry.{Entry}
 use Rattle.tree.specs.declared.node.Node.{Node}
 use Rattle.scene.specs.Lists.{named, all_named, Evaluable}

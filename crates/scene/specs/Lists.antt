@@ -1,5 +1,5 @@
 -- What a list has to be to be worked out. Assumes nothing.
-use Rattle.std.specs.Prelude.{◌≡◌, ℕ, suc, pred, ◌<◌, ◌≤◌, Bool, true, ◌&&◌, List, [], ◌∷◌, map, length, None, nat_lt}
+use Rattle.std.specs.Prelude.{◌≡◌, ℕ, suc, pred, ◌<◌, ◌≤◌, Bool, true, ◌&&◌, List, [], ◌∷◌, length, None, nat_lt}
 use Rattle.tree.specs.Order.{order_fault}
 use Rattle.tree.specs.Spell.{Symbol, solid, operator}
 

@@ -6,7 +6,7 @@ ghost use Rattle.scene.specs.Pruned.{CutDown, RestKept};
 ghost use Rattle.scene.specs.Stack.{items};
 ghost use Rattle.space.specs.At.{at};
 ghost use Rattle.space.specs.Pt.{Pt};
-ghost use Rattle.std.specs.List.{AllByRecursion as All};
+ghost use Rattle.std.specs.List.{AllByRecursion};
 ghost use Rattle.tree.specs.CutStep.{cut_step};
 ghost use Rattle.tree.specs.Parts.{parts};
 ghost use Rattle.tree.specs.Rows.{blend_op, entry_symbol};
@@ -46,9 +46,9 @@ fn cut_operator<J: Joint>(
     requires inside { entry.number < length joints.now }
     requires two { 2 ≤ waiting.old.count }
     requires stacked { Stacked (items waiting.old) written }
-    requires small { All (λ b. unsigned_abs b.value ≤ 2 ^ 30) (items waiting.old) }
+    requires small { AllByRecursion (λ b. unsigned_abs b.value ≤ 2 ^ 30) (items waiting.old) }
     requires room { written < length free.old }
-    ensures laid { (distance : ℕ → Pt → ℤ) (c : Pt) (trees : List Tree) → Laid (with_joints radius fillet joints.now distance) c trees free.old written (items waiting.old) → Laid (with_joints radius fillet joints.now distance) c (cut_step (with_joints radius fillet joints.now distance) c within (operator (blend_op blend) entry.turned entry.number) trees) free.new result (items waiting.new) }
+    ensures laid { (distance : ℕ → Pt → ℤ) (c : Pt) (trees : List Tree) → Laid (with_joints J.radius J.fillet joints.now distance) c trees free.old written (items waiting.old) → Laid (with_joints J.radius J.fillet joints.now distance) c (cut_step (with_joints J.radius J.fillet joints.now distance) c within (operator (blend_op blend) entry.turned entry.number) trees) free.new result (items waiting.new) }
     ensures count { waiting.new.count + 1 ≡ waiting.old.count }
     ensures grown { result ≤ written + 1 }
     ensures len { length free.new ≡ length free.old }
@@ -91,9 +91,9 @@ fn cut_entry<S: Solid, J: Joint>(
     requires inside { named (length solids.now) (length joints.now) (entry_symbol entry) ≡ true }
     requires ready { Ready (entry_symbol entry) waiting.old.count }
     requires stacked { Stacked (items waiting.old) written }
-    requires small { All (λ b. unsigned_abs b.value ≤ 2 ^ 30) (items waiting.old) }
+    requires small { AllByRecursion (λ b. unsigned_abs b.value ≤ 2 ^ 30) (items waiting.old) }
     requires room { written < length free.old }
-    ensures laid { (trees : List Tree) → Laid (parts S.Solid.dist J.Joint.radius J.Joint.fillet solids.now joints.now) (at around.centre) trees free.old written (items waiting.old) → Laid (parts S.Solid.dist J.Joint.radius J.Joint.fillet solids.now joints.now) (at around.centre) (cut_step (parts S.Solid.dist J.Joint.radius J.Joint.fillet solids.now joints.now) (at around.centre) around.radius (entry_symbol entry) trees) free.new result (items waiting.new) }
+    ensures laid { (trees : List Tree) → Laid (parts S.dist J.radius J.fillet solids.now joints.now) (at around.centre) trees free.old written (items waiting.old) → Laid (parts S.dist J.radius J.fillet solids.now joints.now) (at around.centre) (cut_step (parts S.dist J.radius J.fillet solids.now joints.now) (at around.centre) around.radius (entry_symbol entry) trees) free.new result (items waiting.new) }
     ensures count { waiting.new.count ≡ counted (entry_symbol entry) waiting.old.count }
     ensures grown { result ≤ written + 1 }
     ensures len { length free.new ≡ length free.old }
@@ -126,7 +126,7 @@ pub(crate) fn cut_down<S: Solid, J: Joint>(
 ) -> Pruned
     requires evaluable { Evaluable (length solids.now) (length joints.now) (map entry_symbol list.now) }
     requires room { length list.now ≤ length free.old }
-    ensures cut { CutDown (parts S.Solid.dist J.Joint.radius J.Joint.fillet solids.now joints.now) (at around.centre) around.radius list.now free.new result }
+    ensures cut { CutDown (parts S.dist J.radius J.fillet solids.now joints.now) (at around.centre) around.radius list.now free.new result }
     ensures rest { RestKept list.now free.old free.new }
 {
     let mut waiting = Waiting::new(Block { value: 0, start: 0 });

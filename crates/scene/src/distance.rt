@@ -14,7 +14,7 @@ use space::point::Point;
 impl<'a, S: Solid, J: Joint> Scene<'a, S, J> {
     // The distance at a point: that of the tree which the node table spells, cuts included.
     pub fn distance(&self, p: Point) -> i32
-        ensures { Distance (parts S.Solid.dist J.Joint.radius J.Joint.fillet self.now.solids.now self.now.joints.now) (map node_symbol self.now.nodes.now) (at p) result }
+        ensures { Distance (parts S.dist J.radius J.fillet self.now.solids.now self.now.joints.now) (map node_symbol self.now.nodes.now) (at p) result }
     {
         evaluate(self.solids, self.joints, self.list, p)
     }

@@ -4,7 +4,7 @@ ghost use Rattle.scene.specs.Lists.{named, Ready, Evaluable, counted};
 ghost use Rattle.tree.specs.Rows.{entry_symbol};
 ghost use Rattle.scene.specs.Stack.{items};
 ghost use Rattle.space.specs.At.{at};
-ghost use Rattle.std.specs.List.{AllByRecursion as All};
+ghost use Rattle.std.specs.List.{AllByRecursion};
 ghost use Rattle.tree.specs.Parts.{parts};
 ghost use Rattle.tree.specs.Spell.{spell};
 ghost use Rattle.tree.specs.Stepped.{stepped};
@@ -27,8 +27,8 @@ fn step<S: Solid, J: Joint>(
 )
     requires inside { named (length solids.now) (length joints.now) (entry_symbol entry) ≡ true }
     requires ready { Ready (entry_symbol entry) waiting.old.count }
-    requires small { All (λ v. unsigned_abs v ≤ 2 ^ 30) (items waiting.old) }
-    ensures after { items waiting.new ≡ stepped (parts S.Solid.dist J.Joint.radius J.Joint.fillet solids.now joints.now) (at p) (entry_symbol entry) (items waiting.old) }
+    requires small { AllByRecursion (λ v. unsigned_abs v ≤ 2 ^ 30) (items waiting.old) }
+    ensures after { items waiting.new ≡ stepped (parts S.dist J.radius J.fillet solids.now joints.now) (at p) (entry_symbol entry) (items waiting.old) }
     ensures count { waiting.new.count ≡ counted (entry_symbol entry) waiting.old.count }
 {
     let raw = match entry.kind {
@@ -50,7 +50,7 @@ pub(crate) fn evaluate<S: Solid, J: Joint>(
     p: Point,
 ) -> i32
     requires { Evaluable (length solids.now) (length joints.now) (map entry_symbol list.now) }
-    ensures { (t : Tree) → spell t ≡ map entry_symbol list.now → result ≡ value (parts S.Solid.dist J.Joint.radius J.Joint.fillet solids.now joints.now) t (at p) }
+    ensures { (t : Tree) → spell t ≡ map entry_symbol list.now → result ≡ value (parts S.dist J.radius J.fillet solids.now joints.now) t (at p) }
 {
     let mut waiting = Waiting::new(0);
     for entry in list {

@@ -13,7 +13,7 @@ use tree::node::Blend;
 // The distance of the solid with this number.
 pub(crate) fn distance_of<S: Solid>(solids: &[S], number: u16, p: Point) -> i32
     requires { number < length solids.now }
-    ensures value { result ≡ solid_distance dist solids.now number (at p) }
+    ensures value { result ≡ solid_distance S.dist solids.now number (at p) }
     ensures bound { unsigned_abs result ≤ 32767 }
 {
     solids[number as usize].distance(p)
@@ -23,7 +23,7 @@ pub(crate) fn distance_of<S: Solid>(solids: &[S], number: u16, p: Point) -> i32
 fn union_of<J: Joint>(joint: &J, a: i32, b: i32) -> i32
     requires a_small { unsigned_abs a ≤ 2 ^ 30 }
     requires b_small { unsigned_abs b ≤ 2 ^ 30 }
-    ensures { result ≡ joined union (fillet joint.now) a b }
+    ensures { result ≡ joined union (J.fillet joint.now) a b }
 {
     a.min(b) - i32::from(joint.fillet(a.abs_diff(b)))
 }
@@ -32,7 +32,7 @@ fn union_of<J: Joint>(joint: &J, a: i32, b: i32) -> i32
 fn common_of<J: Joint>(joint: &J, a: i32, b: i32) -> i32
     requires a_small { unsigned_abs a ≤ 2 ^ 30 }
     requires b_small { unsigned_abs b ≤ 2 ^ 30 }
-    ensures { result ≡ joined common (fillet joint.now) a b }
+    ensures { result ≡ joined common (J.fillet joint.now) a b }
 {
     a.max(b) + i32::from(joint.fillet(a.abs_diff(b)))
 }
@@ -42,7 +42,7 @@ pub(crate) fn joined_of<J: Joint>(joints: &[J], number: u16, blend: Blend, a: i3
     requires inside { number < length joints.now }
     requires a_small { unsigned_abs a ≤ 2 ^ 30 }
     requires b_small { unsigned_abs b ≤ 2 ^ 30 }
-    ensures value { result ≡ joined (blend_op blend) (joint_fillet fillet joints.now number) a b }
+    ensures value { result ≡ joined (blend_op blend) (joint_fillet J.fillet joints.now number) a b }
     ensures bound { unsigned_abs result ≤ 2 ^ 30 + 1024 }
 {
     let joint = &joints[number as usize];

@@ -11,7 +11,7 @@ use tree::node::{Blend, Entry};
 // Whether the gap of two values is above k + 2R, with k the radius of the joint of this number and R `within`.
 pub(crate) fn drops_out<J: Joint>(joints: &[J], number: u16, within: u16, a: i32, b: i32) -> bool
     requires { number < length joints.now }
-    ensures { result ≡ nat_lt (joint_radius radius joints.now number + 2 * within) (gap a b) }
+    ensures { result ≡ nat_lt (joint_radius J.radius joints.now number + 2 * within) (gap a b) }
 {
     a.abs_diff(b) > u32::from(joints[number as usize].radius()) + 2 * u32::from(within)
 }

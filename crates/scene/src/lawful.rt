@@ -7,7 +7,7 @@ use solids::solid::Solid;
 
 // Tables of any kinds of solid and joint give lawful parts. The function answers 0.
 pub fn parts_lawful<S: Solid, J: Joint>() -> u8
-    ensures { (solids : List S) (joints : List J) → Lawful (parts S.Solid.dist J.Joint.radius J.Joint.fillet solids joints) }
+    ensures { (solids : List S) (joints : List J) → Lawful (parts S.dist J.radius J.fillet solids joints) }
 {
     0
 }

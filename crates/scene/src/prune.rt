@@ -19,8 +19,8 @@ impl<'a, S: Solid, J: Joint> Listing<'a, S, J> {
     // the neighbourhood the pruned list says what the list says. Of the rest of the free part only what `rest`
     // says is certain. The pruned list can be cut down in its turn.
     pub fn prune(&self, around: Neighbourhood, free: &mut [Entry]) -> Result<Pruned, Refusal>
-        ensures outcome { PruneOutcome (parts S.Solid.dist J.Joint.radius J.Joint.fillet self.now.solids.now self.now.joints.now) (at around.centre) around.radius self.now.list.now free.old free.new result }
-        ensures same { SaysTheSame (parts S.Solid.dist J.Joint.radius J.Joint.fillet self.now.solids.now self.now.joints.now) (at around.centre) around.radius self.now.list.now free.new result }
+        ensures outcome { PruneOutcome (parts S.dist J.radius J.fillet self.now.solids.now self.now.joints.now) (at around.centre) around.radius self.now.list.now free.old free.new result }
+        ensures same { SaysTheSame (parts S.dist J.radius J.fillet self.now.solids.now self.now.joints.now) (at around.centre) around.radius self.now.list.now free.new result }
         ensures rest { RestKept self.now.list.now free.old free.new }
         ensures again { Again (length self.now.solids.now) (length self.now.joints.now) free.new result }
     {

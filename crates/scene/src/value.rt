@@ -14,7 +14,7 @@ use space::point::Point;
 impl<'a, S: Solid, J: Joint> Listing<'a, S, J> {
     // The value at a point: that of the tree which the list spells.
     pub fn value(&self, p: Point) -> i32
-        ensures { Distance (parts S.Solid.dist J.Joint.radius J.Joint.fillet self.now.solids.now self.now.joints.now) (map entry_symbol self.now.list.now) (at p) result }
+        ensures { Distance (parts S.dist J.radius J.fillet self.now.solids.now self.now.joints.now) (map entry_symbol self.now.list.now) (at p) result }
     {
         evaluate(self.solids, self.joints, self.list, p)
     }

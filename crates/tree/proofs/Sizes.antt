@@ -4,7 +4,7 @@ use Rattle.space.specs.Laws.{FilletLaw}
 use Rattle.space.specs.Pt.{Pt, InSpace}
 use Rattle.std.proofs.lemmas.Int.{ints, clamps}
 use Rattle.std.specs.Int.{int_max, int_min}
-use Rattle.std.specs.List.{AllByRecursion as All}
+use Rattle.std.specs.List.{AllByRecursion}
 use Rattle.tree.specs.Parts.{Parts, Lawful}
 use Rattle.tree.specs.Spell.{Symbol, solid, operator}
 use Rattle.tree.specs.Stepped.{stepped}
@@ -29,7 +29,7 @@ joined_small common f a b m few h k = greater_small a b m _ h k (few _)
 joined_small cut f a b m few h k = let n : nat_abs (neg_ℤ b) ≤ m = omega (arith, ints) in greater_small a (neg_ℤ b) m _ h n (few _)
 
 abbrev pub Small : ℕ → List ℤ → Type 0
-Small m st = All (λ v. nat_abs v ≤ m) st
+Small m st = AllByRecursion (λ v. nat_abs v ≤ m) st
 
 pub small_up : (m n : ℕ) → m ≤ n → (st : List ℤ) → Small m st → Small n st
 small_up m n h [] s = tt

@@ -1,17 +1,15 @@
-use Rattle.std.proofs.Common.{◌≡◌, ℕ, suc, ◌+◌, ◌*◌, ◌^◌, ◌<◌, ◌≤◌, false, List, [], map, length, get_or, sym, refl, ap, ◌∙◌, subst, subst₂, add-one, arith, w32, SFits, rules}
+use Rattle.std.proofs.Common.{◌≡◌, ◌+◌, ◌*◌, ◌^◌, ◌≤◌, false, map, length, get_or, sym, refl, subst₂, add-one, arith, w32, SFits, rules}
 use Rattle.space.specs.At.{at}
 use Rattle.std.proofs.lemmas.List.{length-map}
 use Rattle.std.proofs.lemmas.Int.{to_z-of_z}
 use Rattle.tree.proofs.Lawfuls.{parts_lawful}
-use Rattle.tree.specs.Parts.{Parts, parts}
+use Rattle.tree.specs.Parts.{parts}
 use Rattle.tree.specs.Rows.{entry_symbol}
-use Rattle.tree.specs.declared.node.Entry.{Entry}
 use Rattle.tree.specs.declared.node.EntryKind.TheVariants.{Solid}
 use Rattle.scene.specs.Stack.{items}
 use Rattle.scene.proofs.CutLoops.{Halfway, begins, stacked, small, named_here, ready_here, goes_on, one_waits, finishes}
 use Rattle.scene.proofs.Loops.{symbol_here}
 use Rattle.scene.proofs.Tables.{in_space}
-use Rattle.scene.proofs.cutting.cut_down.Given as given
 use Rattle.scene.proofs.cutting.cut_down.Goals as goal
 
 pub loop-entry-init : goal.loop-entry-init

@@ -1,4 +1,4 @@
-use Rattle.std.proofs.Common.{map, length}
+use Rattle.std.proofs.Common.{length}
 use Rattle.scene.specs.Stack.{items}
 use Rattle.space.specs.At.{at}
 use Rattle.tree.specs.Parts.{parts}

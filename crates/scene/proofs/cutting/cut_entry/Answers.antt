@@ -1,4 +1,4 @@
-use Rattle.std.proofs.Common.{◌≡◌, ℕ, suc, ◌+◌, List, ◌∷◌, set, ℤ, sym, ap, ◌∙◌, subst, add-one, arith, length-set, drop-set-lt, w32, SFits, rules}
+use Rattle.std.proofs.Common.{◌≡◌, ◌+◌, ◌∷◌, set, ℤ, sym, ap, ◌∙◌, subst, arith, length-set, drop-set-lt, w32, SFits, rules}
 use Rattle.space.specs.At.{at}
 use Rattle.std.proofs.lemmas.List.{take_more_set}
 use Rattle.std.proofs.lemmas.Int.{to_z-of_z}
@@ -8,9 +8,7 @@ use Rattle.tree.specs.Rows.{entry_symbol, entry_symbol_of}
 use Rattle.tree.specs.Spell.{solid}
 use Rattle.tree.specs.Tree.{handed}
 use Rattle.scene.specs.Laid.{Laid}
-use Rattle.scene.specs.Lists.{counted}
 use Rattle.scene.specs.Stack.{items}
-use Rattle.scene.specs.declared.block.Block.{Block}
 use Rattle.scene.proofs.Layouts.{solid_laid}
 use Rattle.scene.proofs.Steps.{solid_count}
 use Rattle.scene.proofs.cutting.cut_entry.Goals as goal

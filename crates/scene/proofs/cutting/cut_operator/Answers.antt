@@ -1,17 +1,15 @@
-use Rattle.std.proofs.Common.{◌≡◌, ℕ, ◌+◌, ◌-◌, ◌*◌, ◌≤◌, Bool, true, false, cond, ltb, List, [], ◌∷◌, ◌++◌, length, take, drop, ℤ, sym, refl, ap, ◌∙◌, subst, ap₂, arith, length-set, drop-set-lt, w32, SFits, rules}
+use Rattle.std.proofs.Common.{◌≡◌, ◌+◌, ◌-◌, ◌≤◌, false, cond, ◌∷◌, ◌++◌, take, drop, ℤ, sym, ap, ◌∙◌, subst, arith, length-set, drop-set-lt, w32, SFits, rules}
 use Rattle.std.proofs.lemmas.List.{take_more_set}
 use Rattle.std.proofs.lemmas.Int.{to_z-of_z}
-use Rattle.tree.specs.Parts.{Parts, joint_radius, joint_fillet}
+use Rattle.tree.specs.Parts.{Parts, joint_fillet}
 use Rattle.tree.specs.Rows.{entry_symbol_of, blend_op}
-use Rattle.tree.specs.Tree.{gap, handed, joined}
-use Rattle.tree.specs.declared.node.Entry.{Entry}
+use Rattle.tree.specs.Tree.{handed, joined}
 use Rattle.tree.specs.declared.node.EntryKind.TheVariants.{Solid}
 use Rattle.scene.specs.Keeping.{keeps_first}
 use Rattle.scene.specs.Laid.{Laid, Stacked, with_joints}
 use Rattle.scene.specs.Stack.{items}
-use Rattle.scene.specs.declared.block.Block.{Block}
 use Rattle.scene.proofs.Freeing.{drop_later, kept_ends}
-use Rattle.scene.proofs.Layouts.{Drops, Stays, drops_laid, stays_laid}
+use Rattle.scene.proofs.Layouts.{drops_laid, stays_laid}
 use Rattle.scene.proofs.cutting.cut_operator.Goals as goal
 
 pub returns-then-drops_out : goal.returns-then-drops_out

@@ -1,21 +1,17 @@
-use Rattle.std.proofs.Common.{◌≡◌, ℕ, suc, ◌+◌, ◌*◌, ◌^◌, ◌<◌, ◌≤◌, false, List, [], ◌∷◌, map, length, get_or, drop, ℤ, sym, refl, ap, ◌∙◌, subst, ap₂, subst₂, mul-le-mul_left, add-one, arith, w32, SFits, rules}
+use Rattle.std.proofs.Common.{◌≡◌, ◌+◌, ◌*◌, ◌^◌, ◌≤◌, false, [], map, length, get_or, sym, refl, ap, ◌∙◌, subst₂, add-one, arith, w32, SFits, rules}
 use Rattle.std.proofs.lemmas.Int.{to_z-of_z}
 use Rattle.scene.specs.Stack.{items}
 use Rattle.space.specs.At.{at}
 use Rattle.std.proofs.lemmas.List.{length-map}
 use Rattle.tree.proofs.Lawfuls.{parts_lawful}
-use Rattle.tree.proofs.Orders.{at_end}
 use Rattle.tree.proofs.Runs.{run, run_tree}
 use Rattle.tree.proofs.Sizes.{small_up, stepped_small}
-use Rattle.tree.specs.Order.{order_fault}
-use Rattle.tree.specs.Parts.{Parts, parts}
+use Rattle.tree.specs.Parts.{parts}
 use Rattle.tree.specs.Rows.{entry_symbol}
 use Rattle.tree.specs.Stepped.{stepped, on_top}
-use Rattle.tree.specs.declared.node.Entry.{Entry}
 use Rattle.tree.specs.declared.node.EntryKind.TheVariants.{Solid}
 use Rattle.scene.proofs.Loops.{Midway, at_start, at_finish, is_named, is_ready, next, symbol_here}
 use Rattle.scene.proofs.Tables.{in_space}
-use Rattle.scene.proofs.evaluate.evaluate.Given as given
 use Rattle.scene.proofs.evaluate.evaluate.Goals as goal
 
 pub loop-entry-init : goal.loop-entry-init

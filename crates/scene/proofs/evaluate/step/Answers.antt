@@ -1,4 +1,4 @@
-use Rattle.std.proofs.Common.{◌+◌, ◌∷◌, refl, ap, ◌∙◌, w32, SFits, rules}
+use Rattle.std.proofs.Common.{◌+◌, ◌∷◌, ap, ◌∙◌, w32, SFits, rules}
 use Rattle.scene.specs.Stack.{items}
 use Rattle.space.specs.At.{at}
 use Rattle.std.proofs.lemmas.Int.{to_z-of_z}

@@ -1,4 +1,4 @@
-use Rattle.std.proofs.Common.{◌≤◌, pos, nat_abs, sym, ◌∙◌, w32, SFits, rules}
+use Rattle.std.proofs.Common.{pos, ◌∙◌, w32, SFits, rules}
 use Rattle.space.specs.At.{at}
 use Rattle.std.proofs.lemmas.Int.{to_z-of_z}
 use Rattle.scene.proofs.Tables.{read_map, in_space}

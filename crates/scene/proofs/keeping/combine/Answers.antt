@@ -1,4 +1,4 @@
-use Rattle.std.proofs.Common.{◌≡◌, ◌-◌, ◌<◌, false, [], ◌∷◌, ◌++◌, length, get_or, take, set, ap, ◌∙◌, arith, length-set}
+use Rattle.std.proofs.Common.{◌-◌, ◌<◌, false, [], ◌∷◌, ◌++◌, length, get_or, take, ap, ◌∙◌, arith, length-set}
 use Rattle.std.proofs.lemmas.List.{get_or_default}
 use Rattle.tree.specs.declared.node.Entry.{Entry}
 use Rattle.tree.specs.declared.node.EntryKind.TheVariants.{Solid}

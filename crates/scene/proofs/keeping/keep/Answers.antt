@@ -1,4 +1,4 @@
-use Rattle.std.proofs.Common.{◌≡◌, ◌+◌, ◌-◌, true, false, cond, ◌++◌, take, drop, sym, refl, ap, ◌∙◌, arith}
+use Rattle.std.proofs.Common.{◌≡◌, ◌+◌, ◌-◌, cond, ◌++◌, take, drop, sym, refl, ap, ◌∙◌, arith}
 use Rattle.scene.proofs.Freeing.{first_stays, second_moved, moved_beyond}
 use Rattle.scene.proofs.keeping.keep.Goals as goal
 

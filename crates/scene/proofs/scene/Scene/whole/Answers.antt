@@ -11,4 +11,8 @@ invariant_of-result g c =
     let solids = length s.solids.now in
     let joints = length s.joints.now in
     let e : Evaluable solids joints (map entry_symbol s.list.now) = evaluable solids joints s.nodes.now s.list.now s.whole s.named s.ordered s.few_nodes in
-    (e.within, (listing_ordered solids joints s.list.now e, (listing_short solids joints s.list.now e, tt)))
+    record {
+      named = e.within;
+      ordered = listing_ordered solids joints s.list.now e;
+      short = listing_short solids joints s.list.now e;
+    }

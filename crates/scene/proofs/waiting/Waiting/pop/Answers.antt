@@ -1,4 +1,4 @@
-use Rattle.std.proofs.Common.{◌-◌, ◌<◌, length, arith, rules}
+use Rattle.std.proofs.Common.{◌-◌, ◌<◌, length, rules}
 use Rattle.scene.proofs.Stacks.{popped}
 use Rattle.scene.proofs.waiting.Waiting.pop.Goals as goal
 
