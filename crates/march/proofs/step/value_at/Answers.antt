@@ -20,7 +20,7 @@ pub returns-then-bound-from : goal.returns-then-bound-from
 returns-then-bound-from g c =
     let fits : SFits w32 c.in-Bound.bound = search rules in
     let small : c.args.margin ≤ 65535 = omega arith in
-    let sure_fits : SFits w32 c.sure.result = record { sfits = c.sure.type-inv } in
+    let sure_fits : SFits w32 c.sure.result = record { sfits = c.sure.type_inv } in
     let sure = g.G.Gauge.means c.quick.new.self (at c.args.point) in
     record {
       value = record {

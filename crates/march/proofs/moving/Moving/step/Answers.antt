@@ -8,7 +8,7 @@ pub returns : goal.returns
 returns g c =
     let m = c.args.self.motion in
     let v = c.value_at-value.result in
-    let fits : SFits w32 v = record { sfits = c.value_at-value.type-inv } in
+    let fits : SFits w32 v = record { sfits = c.value_at-value.type_inv } in
     let before = c.args.gauge.now in
     let after = c.value_at-value.new.gauge in
     record {
