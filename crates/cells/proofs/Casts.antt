@@ -1,12 +1,12 @@
 -- What the methods compute over bits, read as whole numbers. Assumes nothing.
 use Rattle.std.proofs.Common.{◌≡◌, ℕ, suc, ◌+◌, ◌*◌, ◌/◌, ◌%◌, ◌<◌, ◌≤◌, Bool, true, false, ◌&&◌, ltb, ℤ, pos, ◌+ℤ◌, ◌-ℤ◌, nat_abs, Some, None, sym, ap, ◌∙◌, subst, ap₂, ⊎_elim, mul-le-mul_right, suc-mul, div-mul-le_self, add-one, arith, w16, SFits, to_z, of_z}
 use Rattle.space.specs.At.{at}
-use Rattle.space.specs.Pt.{InRange}
+use Rattle.space.specs.Pt.{InRange, InSpace}
 use Rattle.space.specs.declared.point.Point.{Point}
 use Rattle.std.proofs.lemmas.Int.{ints}
 use Rattle.std.proofs.lemmas.Bool.{cases_lt, lt-ltb, le-ltb, and_from, and_left, and_right, cond-true, cond-false}
 use Rattle.cells.specs.Cell.{cube, child_outcome, toward_outcome}
-use Rattle.cells.specs.CellLaw.{HeldBySpace}
+use Rattle.cells.specs.CellLaw.{HeldBySpace, Inside}
 use Rattle.cells.specs.Cells.{side, middle, part, spans, has, place_toward}
 use Rattle.cells.specs.declared.cell.Cell.{Cell}
 use Rattle.cells.proofs.Cubes.{Boxed, boxed, few_first, few_second, few_third}
@@ -69,7 +69,7 @@ module _ (l s : ℕ) (low : ℤ) (lt : l < 7) (held : HeldBySpace (side l) low) 
 
 -- ---- the part that has a coordinate
 
-module _ (s n : ℕ) (low a : ℤ) (some : 0 < s) (short : nat_abs (a -ℤ low) < 4 * s) (FitsLow : SFits w16 low) (fits_a : SFits w16 a) (is : n ≡ nat_abs (read_16 a -ℤ read_16 low)) where
+module _ (s n : ℕ) (low a : ℤ) (some : 0 < s) (short : nat_abs (a -ℤ low) < 4 * s) (fits_low : SFits w16 low) (fits_a : SFits w16 a) (is : n ≡ nat_abs (read_16 a -ℤ read_16 low)) where
   pub place_is : n / s ≡ place_toward s low a
   place_is = ap (λ m. m / s) (omega (arith, ints))
 
@@ -115,26 +115,20 @@ module _ (s : Cell) (p : Point) (e : ℕ) (x y z : Bool) (same : e ≡ side s.le
 -- ---- the child with the number n of a cell; e is its side, and x, y and z its low ends
 
 module _ (s : Cell) (n e : ℕ) (x y z : ℤ) (few : n < 64) (lt : s.level < 7) (same : e ≡ side (suc s.level)) (x_is : x ≡ part e (n % 4) (read_16 s.low.x)) (y_is : y ≡ part e (n / 4 % 4) (read_16 s.low.y)) (z_is : z ≡ part e (n / 16) (read_16 s.low.z)) where
-  pub child_ranges : InRange (read_16 x) × (InRange (read_16 y) × (InRange (read_16 z) × Unit {0}))
-  child_ranges = (
-    end_range s.level e _ lt s.x_in same _ x (few_first n) x_is,
-    (
-      end_range s.level e _ lt s.y_in same _ y (few_second n) y_is,
-      (end_range s.level e _ lt s.z_in same _ z (few_third n few) z_is, tt),
-    ),
-  )
+  pub child_ranges : InSpace (record { x = read_16 x; y = read_16 y; z = read_16 z })
+  child_ranges = record {
+    x_in = end_range s.level e _ lt s.x_in same _ x (few_first n) x_is;
+    y_in = end_range s.level e _ lt s.y_in same _ y (few_second n) y_is;
+    z_in = end_range s.level e _ lt s.z_in same _ z (few_third n few) z_is;
+  }
 
-  pub child_held : (s.level + 1 ≤ 7) × (HeldBySpace (side (s.level + 1)) (read_16 x) × (HeldBySpace (side (s.level + 1)) (read_16 y) × (HeldBySpace (side (s.level + 1)) (read_16 z) × Unit {0})))
-  child_held = (
-    omega arith,
-    (
-      end_held s.level e _ lt s.x_in same _ x (few_first n) x_is,
-      (
-        end_held s.level e _ lt s.y_in same _ y (few_second n) y_is,
-        (end_held s.level e _ lt s.z_in same _ z (few_third n few) z_is, tt),
-      ),
-    ),
-  )
+  pub child_held : Inside (record { level = s.level + 1; low = record { x = read_16 x; y = read_16 y; z = read_16 z } })
+  child_held = record {
+    level_in = omega arith;
+    x_in = end_held s.level e _ lt s.x_in same _ x (few_first n) x_is;
+    y_in = end_held s.level e _ lt s.y_in same _ y (few_second n) y_is;
+    z_in = end_held s.level e _ lt s.z_in same _ z (few_third n few) z_is;
+  }
 
   pub child_read : Some (record { level = s.level + 1; low = record { x = read_16 x; y = read_16 y; z = read_16 z } }) ≡ child_outcome (cube s) n
   child_read =
@@ -151,9 +145,9 @@ module _ (s : Cell) (n e : ℕ) (x y z : ℤ) (few : n < 64) (lt : s.level < 7) 
 
 -- ---- the child toward a point of the cell; e is its side, and i, j and k the places
 
-module _ (s : Cell) (p : Point) (e : ℕ) (lt : s.level < 7) (in_Cell : true ≡ has (cube s) (at p)) (same : e ≡ side (suc s.level)) where
+module _ (s : Cell) (p : Point) (e : ℕ) (lt : s.level < 7) (in_cell : true ≡ has (cube s) (at p)) (same : e ≡ side (suc s.level)) where
   in_box_read : Boxed (side s.level) (at s.low) (at p)
-  in_box_read = boxed (cube s) (at p) (sym in_Cell)
+  in_box_read = boxed (cube s) (at p) (sym in_cell)
 
   pub toward_x : (0 < e) × (nat_abs (read_16 p.x -ℤ read_16 s.low.x) < 4 * e)
   toward_x = let h = in_box_read.along_x in (extent_some s.level e _ _ lt s.x_in same h, extent_short s.level e _ _ lt s.x_in same h)
@@ -165,12 +159,12 @@ module _ (s : Cell) (p : Point) (e : ℕ) (lt : s.level < 7) (in_Cell : true ≡
   toward_z = let h = in_box_read.along_z in (extent_some s.level e _ _ lt s.z_in same h, extent_short s.level e _ _ lt s.z_in same h)
 
   pub toward_is : (i j k : ℕ) → i ≡ place_toward e (read_16 s.low.x) (read_16 p.x) → j ≡ place_toward e (read_16 s.low.y) (read_16 p.y) → k ≡ place_toward e (read_16 s.low.z) (read_16 p.z) → Some (i + 4 * j + 16 * k) ≡ toward_outcome (cube s) (at p)
-  toward_is i j k i-is j-is k-is =
-      let x = i-is ∙ toward_read s.level e _ _ lt s.x_in same in_box_read.along_x in
-      let y = j-is ∙ toward_read s.level e _ _ lt s.y_in same in_box_read.along_y in
-      let z = k-is ∙ toward_read s.level e _ _ lt s.z_in same in_box_read.along_z in
+  toward_is i j k i_is j_is k_is =
+      let x = i_is ∙ toward_read s.level e _ _ lt s.x_in same in_box_read.along_x in
+      let y = j_is ∙ toward_read s.level e _ _ lt s.y_in same in_box_read.along_y in
+      let z = k_is ∙ toward_read s.level e _ _ lt s.z_in same in_box_read.along_z in
       (λ t. Some (x t + 4 * y t + 16 * z t))
-      ∙ sym (cond-true (ltb s.level 7 && has (cube s) (at p)) _ _ (and_from (ltb s.level 7) (has (cube s) (at p)) (lt-ltb s.level 7 lt) (sym in_Cell)))
+      ∙ sym (cond-true (ltb s.level 7 && has (cube s) (at p)) _ _ (and_from (ltb s.level 7) (has (cube s) (at p)) (lt-ltb s.level 7 lt) (sym in_cell)))
 
 -- no child has the point where the cell is of the last level, or has it not
 pub no_child : (s : Cell) (p : Point) → 7 ≤ s.level → None ≡ toward_outcome (cube s) (at p)

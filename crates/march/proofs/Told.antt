@@ -1,5 +1,5 @@
 -- What the value that a step goes by tells of the distance. Assumes nothing.
-use Rattle.std.proofs.Common.{◌≡◌, ℕ, ◌<◌, ◌≤◌, Bool, true, false, cond, ℤ, pos, negsuc, ◌≤ℤ◌, ◌<ℤ◌, refl, ◌∙◌, arith}
+use Rattle.std.proofs.Common.{◌≡◌, ℕ, Bool, true, false, cond, ℤ, pos, negsuc, ◌≤ℤ◌, ◌<ℤ◌, refl, ◌∙◌, arith}
 use lib.Signed.{le_z, le_z_yes}
 use Rattle.space.specs.Bound as b
 use Rattle.std.proofs.lemmas.Int.{ints}

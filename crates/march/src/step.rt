@@ -15,9 +15,9 @@ use space::point::Point;
 impl Moving {
     // Looks at the next set point: the march ends met or clear, or goes on from a later set point.
     pub fn step<G: Gauge>(self, gauge: &mut G) -> Step
-        requires { holds gauge.old }
-        ensures stepped { Stepped means reads (route self.motion) self.number gauge.old gauge.new (state_of result) }
-        ensures kept { Kept holds means gauge.old gauge.new }
+        requires { G.holds gauge.old }
+        ensures stepped { Stepped G.means G.reads (route self.motion) self.number gauge.old gauge.new (state_of result) }
+        ensures kept { Kept G.holds G.means gauge.old gauge.new }
     {
         let point = self.motion.set_point(self.number);
         let value = value_at(gauge, point, self.motion.margin);
@@ -53,9 +53,9 @@ impl Moving {
 
 // The value that a step goes by: the quick reading, or the sure one where that is a bound not above the margin.
 fn value_at<G: Gauge>(gauge: &mut G, point: Point, margin: u16) -> i32
-    requires { holds gauge.old }
-    ensures value { Valued means reads margin (at point) gauge.old gauge.new result }
-    ensures kept { Kept holds means gauge.old gauge.new }
+    requires { G.holds gauge.old }
+    ensures value { Valued G.means G.reads margin (at point) gauge.old gauge.new result }
+    ensures kept { Kept G.holds G.means gauge.old gauge.new }
 {
     match gauge.quick(point) {
         Reading::Exact(distance) => distance,

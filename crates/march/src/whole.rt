@@ -12,11 +12,11 @@ use crate::moving::{Ended, Moving, Step};
 // A march from its beginning, with every step to its end. It ends as the distances say, and so does any march that is
 // begun and stepped by hand, whatever happens between the steps to the gauge or to another of the same meaning.
 pub fn march<G: Gauge>(motion: Motion, gauge: &mut G) -> Ended
-    requires { holds gauge.old }
-    ensures ends { Ends (means gauge.old) (route motion) result.outcome }
-    ensures kept { Kept holds means gauge.old gauge.new }
-    ensures whole { Whole means reads (route motion) gauge.old (ended result.outcome) gauge.new }
-    ensures by_hand { ByHandLaw holds means reads }
+    requires { G.holds gauge.old }
+    ensures ends { Ends (G.means gauge.old) (route motion) result.outcome }
+    ensures kept { Kept G.holds G.means gauge.old gauge.new }
+    ensures whole { Whole G.means G.reads (route motion) gauge.old (ended result.outcome) gauge.new }
+    ensures by_hand { ByHandLaw G.holds G.means G.reads }
 {
     G::laws();
     let mut moving = Moving::begin(motion);

@@ -19,13 +19,17 @@ part-requires-3 c =
 
 pub invariant_of-result : goal.invariant_of-result
 invariant_of-result c =
+    let h =
     child_ranges c.args.self c.args.number c.child_side-extent.result c.part.result c.part-2.result c.part-3.result
-    c.if-number-ge-CHILDREN.false c.if-self-ge-FINEST.false c.child_side-extent.ensures c.part.ensures c.part-2.ensures c.part-3.ensures
+    c.if-number-ge-CHILDREN.false c.if-self-ge-FINEST.false c.child_side-extent.ensures c.part.ensures c.part-2.ensures c.part-3.ensures in
+    record { x_in = h.x_in; y_in = h.y_in; z_in = h.z_in }
 
 pub invariant_of-result-2 : goal.invariant_of-result-2
 invariant_of-result-2 c =
+    let h =
     child_held c.args.self c.args.number c.child_side-extent.result c.part.result c.part-2.result c.part-3.result
-    c.if-number-ge-CHILDREN.false c.if-self-ge-FINEST.false c.child_side-extent.ensures c.part.ensures c.part-2.ensures c.part-3.ensures
+    c.if-number-ge-CHILDREN.false c.if-self-ge-FINEST.false c.child_side-extent.ensures c.part.ensures c.part-2.ensures c.part-3.ensures in
+    record { level_in = h.level_in; x_in = h.x_in; y_in = h.y_in; z_in = h.z_in }
 
 pub returns : goal.returns
 returns c =

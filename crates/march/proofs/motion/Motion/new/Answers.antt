@@ -9,7 +9,7 @@ use Rattle.march.proofs.motion.Motion.new.Goals.{then-margin-lt0-via-then-margin
 
 pub returns-in_err-from : goal.returns-in_err-from
 returns-in_err-from c =
-    let p = err_from_is_err_and c.from-residual.result c.from-residual.ensures.1 in
+    let p = err_from_is_err_and c.from_residual.result c.from_residual.ensures.1 in
     let same = as_passed (triple c.args.from) (search rules) (search rules) (search rules) in
     rw (p.1, p.2) (a_refused (triple c.args.from) (triple c.args.to) c.args.margin c.in_err-from.field-0.0 (c.in_err-from.ensures ∙ same))
 

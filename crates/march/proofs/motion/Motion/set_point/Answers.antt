@@ -1,7 +1,7 @@
 use Rattle.march.proofs.Axes.{coordinate}
 use Rattle.march.specs.Motion.{route}
 use Rattle.march.specs.Route.{last}
-use Rattle.setpoints.specs.SetPoint.{on_axis, set_point}
+use Rattle.setpoints.specs.SetPoint.{set_point}
 use Rattle.march.proofs.motion.Motion.set_point.Goals as goal
 
 pub returns : goal.returns
