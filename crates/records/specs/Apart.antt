@@ -2,9 +2,9 @@
 use Rattle.std.specs.Prelude.{◌≡◌, ℕ, ◌+◌, ◌-◌, ◌*◌, ◌<◌, ◌≤◌, Bool, true, false, cond, ◌≢◌, length, get_or, ℤ, ◌==◌, nat_eq, slice_index, slice_index_or, unsigned_abs, refl}
 use Rattle.std.proofs.Math.Bridge.{le_prop}
 use Rattle.std.proofs.Common.{arith, ap, sym, ◌∙◌}
-use mathlib.Core.HLevel.{is_prop→PathP, ×_prop}
+use mathlib.Core.HLevel.{is_prop→PathP}
 use Rattle.std.specs.Coded.{coded_ℕ, coded_bool}
-use denote.Struct.Props.{≡_prop, ≤ℤ_prop}
+use denote.Struct.Props.{≡_prop, props}
 use Rattle.std.proofs.lemmas.List.{ext_get_or}
 use Rattle.space.specs.At.{at}
 use Rattle.space.specs.Pt.{InRange}
@@ -98,7 +98,7 @@ soft_apart i j e =
 
 -- ---- points
 in_range_prop : (a : ℤ) → IsProp (InRange a)
-in_range_prop a = ×_prop ≤ℤ_prop ≤ℤ_prop
+in_range_prop a = hlevel props
 
 point_apart : (p q : Point) → at p ≡ at q → p ≡ q
 point_apart p q e = λ i. record {

@@ -1,5 +1,5 @@
 -- The record of a point, 6 bytes. Assumes nothing.
-use Rattle.std.specs.Prelude.{ℕ, List, ◌++◌, pos, ◌≤ℤ◌}
+use Rattle.std.specs.Prelude.{ℕ, List, ◌++◌, pos}
 use Rattle.space.specs.At.{at}
 use Rattle.space.specs.Pt.{Pt}
 use Rattle.space.specs.declared.point.Point.{Point}

@@ -1,6 +1,5 @@
 // The makes of scene file: which kind of solid goes with which kind of joint.
-ghost use Rattle.std.specs.Prelude.{◌≡◌, ℕ};
-ghost use Rattle.std.proofs.Common.{rules};
+ghost use Rattle.std.specs.Prelude.{◌≡◌, ℕ, refl};
 
 use crate::record::Record;
 use joints::house::HouseJoint;
@@ -42,7 +41,7 @@ impl Make for CatalogueMake {
 
     ghost make = { 1 };
 
-    ghost joint_length = { Prim.search rules };
+    ghost joint_length = { refl };
 
     fn make() -> u16 {
         Self::NUMBER
@@ -61,7 +60,7 @@ impl Make for ProbedMake {
 
     ghost make = { 2 };
 
-    ghost joint_length = { Prim.search rules };
+    ghost joint_length = { refl };
 
     fn make() -> u16 {
         Self::NUMBER

@@ -1,5 +1,6 @@
 // What can stand as a row in a table of a scene file.
-ghost use Rattle.std.specs.Prelude.{◌≡◌, ℕ, ◌≤◌, List, length};
+ghost use Rattle.std.specs.Prelude.{◌≡◌, ℕ, ◌≤◌, List, length, refl};
+ghost use Rattle.std.proofs.Math.Dec.{lit≤};
 ghost use Rattle.records.specs.Catalogue.{catalogue_record};
 ghost use Rattle.records.specs.Joint.{house_record, soft_record};
 ghost use Rattle.records.specs.Node.{node_record};
@@ -7,7 +8,6 @@ ghost use Rattle.records.specs.Probed.{probed_record};
 ghost use Rattle.records.specs.Put.{put};
 ghost use Rattle.records.specs.Reads.{Reads};
 ghost use Rattle.records.specs.Apart.{catalogue_apart, probed_apart, house_apart, soft_apart, node_apart};
-ghost use Rattle.std.proofs.Common.{rules};
 
 use crate::bytes::put_bytes;
 use crate::catalogue::{catalogue_bytes, read_catalogue};
@@ -58,11 +58,11 @@ impl Record for CatalogueSolid {
 
     ghost written = { catalogue_record };
 
-    ghost sized = { Prim.search rules };
+    ghost sized = { λ x. refl };
 
     ghost apart = { catalogue_apart };
 
-    ghost short = { Prim.search rules };
+    ghost short = { lit≤ tt };
 
     fn size() -> usize {
         Self::LENGTH
@@ -84,11 +84,11 @@ impl Record for Probed {
 
     ghost written = { probed_record };
 
-    ghost sized = { Prim.search rules };
+    ghost sized = { λ x. refl };
 
     ghost apart = { probed_apart };
 
-    ghost short = { Prim.search rules };
+    ghost short = { lit≤ tt };
 
     fn size() -> usize {
         Self::LENGTH
@@ -110,11 +110,11 @@ impl Record for HouseJoint {
 
     ghost written = { house_record };
 
-    ghost sized = { Prim.search rules };
+    ghost sized = { λ x. refl };
 
     ghost apart = { house_apart };
 
-    ghost short = { Prim.search rules };
+    ghost short = { lit≤ tt };
 
     fn size() -> usize {
         Self::LENGTH
@@ -136,11 +136,11 @@ impl Record for SoftJoint {
 
     ghost written = { soft_record };
 
-    ghost sized = { Prim.search rules };
+    ghost sized = { λ x. refl };
 
     ghost apart = { soft_apart };
 
-    ghost short = { Prim.search rules };
+    ghost short = { lit≤ tt };
 
     fn size() -> usize {
         Self::LENGTH
@@ -162,11 +162,11 @@ impl Record for Node {
 
     ghost written = { node_record };
 
-    ghost sized = { Prim.search rules };
+    ghost sized = { λ x. refl };
 
     ghost apart = { node_apart };
 
-    ghost short = { Prim.search rules };
+    ghost short = { lit≤ tt };
 
     fn size() -> usize {
         Self::LENGTH

@@ -27,11 +27,11 @@ no_plane raw k none (Block s) e = omega (arith, ap (λ (r : RawSolid). r.kind) e
 no_plane raw k none (Plane s) e = none s e
 no_plane raw k none (Drum s) e = omega (arith, ap (λ (r : RawSolid). r.kind) e)
 
-pub returns-in_err-read_ball : goal.returns-in_err-read_ball
-returns-in_err-read_ball c = rw c.from-residual.ensures (no_ball c.args.raw c.in-1.is c.in_err-read_ball.ensures)
+pub returns-in_err-read_ball-in-1 : goal.returns-in_err-read_ball-in-1
+returns-in_err-read_ball-in-1 c = rw c.from_residual.ensures (no_ball c.args.raw c.in-1.is c.in_err-read_ball-in-1.ensures)
 
-pub returns-in_err-read_block : goal.returns-in_err-read_block
-returns-in_err-read_block c = rw c.from-residual-in_err-read_block.ensures (no_block c.args.raw c.in-2.is c.in_err-read_block.ensures)
+pub returns-in_err-read_block-in-2 : goal.returns-in_err-read_block-in-2
+returns-in_err-read_block-in-2 c = rw c.from_residual-in_err-read_block-in-2.ensures (no_block c.args.raw c.in-2.is c.in_err-read_block-in-2.ensures)
 
-pub returns-in_err-read_plane : goal.returns-in_err-read_plane
-returns-in_err-read_plane c = rw c.from-residual-in_err-read_plane.ensures (no_plane c.args.raw c.in-3.is c.in_err-read_plane.ensures)
+pub returns-in_err-read_plane-in-3 : goal.returns-in_err-read_plane-in-3
+returns-in_err-read_plane-in-3 c = rw c.from_residual-in_err-read_plane-in-3.ensures (no_plane c.args.raw c.in-3.is c.in_err-read_plane-in-3.ensures)

@@ -3,4 +3,4 @@ use Rattle.records.proofs.joint.read_soft.Goals as goal
 
 pub returns-in_err-form : goal.returns-in_err-form
 returns-in_err-form c =
-    rw c.from-residual.ensures (λ j e. c.in_err-form.ensures (soft_fields j) e)
+    rw c.from_residual.ensures (λ j e. c.in_err-form.ensures (soft_fields j) e)

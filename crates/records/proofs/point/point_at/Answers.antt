@@ -5,7 +5,7 @@ use Rattle.space.specs.Pt.{Pt}
 use Rattle.records.specs.Elements.{elements}
 use Rattle.records.specs.Point.{pt_record}
 use Rattle.records.specs.Reads.{Reads}
-use Rattle.records.specs.Points.{PtFit, pt_same, point_fits}
+use Rattle.records.specs.Points.{pt_same, point_fits}
 use Rattle.records.proofs.Stages.{reads_through}
 use Rattle.records.proofs.point.point_at.Goals as goal
 

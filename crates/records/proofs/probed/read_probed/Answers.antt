@@ -10,7 +10,7 @@ loop-i-init c = filled_none _ _ _ refl refl
 
 pub returns-in_err-centre : goal.returns-in_err-centre
 returns-in_err-centre c =
-    rw c.from-residual.ensures
+    rw c.from_residual.ensures
     (λ s e. some_centre c.args.bytes.now s e c.loop-i.i (omega (arith, c.loop-i-test.true)) c.in_err-centre.ensures)
 
 pub returns-then-not-is_origin : goal.returns-then-not-is_origin
@@ -23,7 +23,7 @@ pub loop-i-preserved : goal.loop-i-preserved
 loop-i-preserved c =
     let unused : c.u16_at-count.result ≤ c.loop-i.i → is_origin c.in_ok-centre.centre ≡ true =
     λ h. elim c.else-i-count.branch [
-      | else-i-count-via-then-i-count+else-not-is-origin w ↦ sym w.if-not-is_origin.ensures
+      | else-i-count-via-then-i-count+else-not-is_origin w ↦ sym w.if-not-is_origin.ensures
       | else-i-count-via-else-i-count w ↦ absurd (let f : ⊥ = omega (arith, w.if-i-count.false) in f)
     ] in
     filled_more _ _ _ _ c.in_ok-centre.centre (omega (arith, c.loop-i-test.true)) c.loop-i.invariant c.in_ok-centre.ensures unused

@@ -1,4 +1,4 @@
-use Rattle.std.proofs.Common.{w16, w32, SFits, rules}
+use Rattle.std.proofs.Common.{w16, w32, rules}
 use Rattle.std.proofs.lemmas.Int.{to_z-of_z}
 use Rattle.records.specs.Digits.{elements_all}
 use Rattle.records.proofs.raw.read_raw.Goals as goal
