@@ -4,7 +4,7 @@ use Rattle.cells.specs.Cells.{Cube, centre, radius}
 use Rattle.descent.specs.Descent.{far_mark, Answers, Descends}
 use Rattle.descent.specs.declared.child.Child.{Child}
 use Rattle.descent.specs.declared.child.Child.TheVariants.{Near, Far}
-use Rattle.paths.specs.Held.{Held, near, far, marked, descended}
+use Rattle.paths.specs.Held.{near, far, marked}
 use Rattle.scene.specs.Pruned.{CutDown}
 use Rattle.scene.specs.declared.pruned.Pruned.{Pruned}
 use Rattle.space.specs.Pt.{Pt}

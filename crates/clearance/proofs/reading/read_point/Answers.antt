@@ -6,7 +6,7 @@ use Rattle.clearance.proofs.reading.read_point.Goals as goal
 
 pub returns-in_err-read_coordinate-3 : goal.returns-in_err-read_coordinate-3
 returns-in_err-read_coordinate-3 c =
-    c.from-residual-in_err-read_coordinate-3.ensures
+    c.from_residual-in_err-read_coordinate-3.ensures
     ∙ no_third c.args.text.now c.in_ok-x.x.now c.in_ok-x.rest.now c.in_ok-y.y.now c.in_ok-y.z.now
     c.in_ok-x.ensures c.in_ok-y.ensures c.in_err-read_coordinate-3.ensures
 

@@ -1,8 +1,7 @@
-use Rattle.std.proofs.Common.{◌≡◌, ℤ, Some, None, sym, ap, ◌∙◌, ap₂, subst₂, w32, SFits, rules}
+use Rattle.std.proofs.Common.{◌≡◌, ℤ, Some, sym, ap, ◌∙◌, ap₂, subst₂, w32, SFits, rules}
 use Rattle.cells.specs.Cell.{cube}
 use Rattle.cells.specs.Cells.{radius}
 use Rattle.descent.specs.Descent.{far_mark}
-use Rattle.descent.specs.declared.child.Child.TheVariants.{Near, Far}
 use Rattle.scene.specs.Pruned.{CutDown}
 use Rattle.std.proofs.lemmas.Int.{to_z-of_z}
 use Rattle.tree.proofs.Lawfuls.{parts_lawful}

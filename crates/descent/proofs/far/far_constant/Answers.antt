@@ -1,4 +1,4 @@
-use Rattle.std.proofs.Common.{◌≡◌, ◌+◌, ◌*◌, ◌<◌, ℤ, pos, ◌+ℤ◌, nat_abs, ◌<ℤ◌, Some, sym, ap, ◌∙◌, subst, subst₂, w32, SFits, rules}
+use Rattle.std.proofs.Common.{◌≡◌, ◌*◌, ◌<◌, ℤ, pos, ◌+ℤ◌, nat_abs, ◌<ℤ◌, Some, ap, ◌∙◌, subst, subst₂, w32, SFits, rules}
 use lib.Signed.{lt_z_yes}
 use Rattle.std.proofs.lemmas.Int.{to_z-of_z}
 use Rattle.std.specs.Int.{int_min}
