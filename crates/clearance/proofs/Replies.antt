@@ -1,7 +1,6 @@
 -- The answer at a point. Assumes nothing.
 use Rattle.std.proofs.Common.{◌≡◌, List, ℤ, Ok, Result, ap, ◌∙◌, subst}
 use Rattle.clearance.specs.Answers.{AnswersAt}
-use Rattle.clearance.specs.declared.answer.Answer.{Answer}
 use Rattle.clearance.specs.declared.answer.Answer.TheVariants.{At}
 use Rattle.space.specs.At.{pt_outcome}
 use Rattle.space.specs.Pt.{Pt}

@@ -1,4 +1,4 @@
-use Rattle.std.proofs.Common.{◌≡◌, ℕ, ◌^◌, ◌<◌, ℤ, pos, ◌-ℤ◌, neg_ℤ, Some, None, sym, ap, ◌∙◌, arith, lit<, w32, to_z, of_z, rules}
+use Rattle.std.proofs.Common.{◌≡◌, ℕ, ◌<◌, ℤ, pos, ◌-ℤ◌, neg_ℤ, Some, None, sym, ap, ◌∙◌, arith, lit<, w32, to_z, of_z, rules}
 use Rattle.std.proofs.lemmas.Int.{ints}
 use Rattle.clearance.specs.Lines.{signed_by}
 use Rattle.std.proofs.lemmas.Str.Pattern.{strip_prefix_char}

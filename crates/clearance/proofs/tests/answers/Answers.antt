@@ -5,4 +5,12 @@ use Rattle.clearance.proofs.tests.answers.Goals as goal
 
 pub invariant_of-scene : goal.invariant_of-scene
 unfolding order_fault whole_entries
-invariant_of-scene c = (lit≤ tt, (lit≤ tt, (lit≤ tt, (refl, (refl, (refl, (refl, tt)))))))
+invariant_of-scene g c = record {
+  few_solids = lit≤ tt;
+  few_joints = lit≤ tt;
+  few_nodes = lit≤ tt;
+  named = refl;
+  ordered = refl;
+  used = refl;
+  whole = refl;
+}
