@@ -3,7 +3,7 @@ ghost use Rattle.std.specs.Prelude.{◌≡◌};
 ghost use Rattle.descent.specs.Descent.{far_mark};
 
 // With d the value at a cell's centre: the constant of a far cell, or nothing where the cell is near. A cell is
-// far where |d| is above C.R; its constant is |d| − R under d's sign.
+// far where |d| is above C·R; its constant is |d| − R under d's sign.
 pub fn far_constant(d: i32, radius: u16, factor: u8) -> Option<i32>
     ensures { result ≡ far_mark factor radius d }
 {
