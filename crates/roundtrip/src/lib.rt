@@ -8,14 +8,14 @@ use records::make::Make;
 
 // An accepted file, read and written again, has its old bytes.
 pub fn read_then_written<M: Make>() -> u8
-    ensures { ReadThenWritten Solid-as-Record.size Solid-as-Record.written Joint-as-Record.written }
+    ensures { ReadThenWritten M.Solid.Record.size M.Solid.Record.written M.Joint.Record.written }
 {
     0
 }
 
 // A scene that a file can hold, written and read again, is accepted and is the same scene.
 pub fn written_then_read<M: Make>() -> u8
-    ensures { WrittenThenRead Solid-as-Record.size Solid-as-Record.written Joint-as-Record.written }
+    ensures { WrittenThenRead M.Solid.Record.size M.Solid.Record.written M.Joint.Record.written }
 {
     0
 }

@@ -1,5 +1,5 @@
 -- The first fault of one list of checks after another. Assumes nothing.
-use Rattle.std.proofs.Common.{◌≡◌, Bool, true, false, cond, List, [], ◌∷◌, ◌++◌, Some, None, Option, sym, refl, ◌∙◌}
+use Rattle.std.proofs.Common.{◌≡◌, Bool, true, false, cond, List, [], ◌∷◌, ◌++◌, Some, None, Option, refl, ◌∙◌}
 use Rattle.space.specs.declared.refusal.Refusal.{Refusal}
 use Rattle.scenefile.specs.Header.{first_fault}
 

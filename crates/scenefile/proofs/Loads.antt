@@ -1,9 +1,9 @@
 -- What the checks give the loading. Assumes nothing.
-use Rattle.std.proofs.Common.{◌≡◌, ℕ, ◌+◌, ◌-◌, ◌*◌, ◌<◌, ◌≤◌, Bool, true, false, cond, ◌⊎◌, List, [], ◌∷◌, ◌++◌, map, length, take, Some, None, Option, sym, refl, ap, ◌∙◌, subst, ap₂, subst₂, inl, inr, arith, length-take}
+use Rattle.std.proofs.Common.{◌≡◌, ℕ, ◌+◌, ◌-◌, ◌*◌, ◌<◌, ◌≤◌, Bool, true, false, cond, List, [], ◌∷◌, ◌++◌, map, length, take, Some, sym, ap, ◌∙◌, subst, ap₂, subst₂, inl, inr, arith, length-take}
 use native.Mathlib.Nat.{sub-zero}
 use Rattle.scene.specs.Used.{names}
-use Rattle.scenefile.specs.Checks.{Refused, Checked, solid_rows, joint_rows, UnusedCheck}
-use Rattle.scenefile.specs.Header.{first_fault, header_fault, count_faults, layout_faults, room_faults, count, solids_start, joints_start}
+use Rattle.scenefile.specs.Checks.{Refused, Checked, solid_rows, joint_rows}
+use Rattle.scenefile.specs.Header.{first_fault, count_faults, layout_faults, room_faults, count, joints_start}
 use Rattle.scenefile.specs.Load.{UnusedSolid}
 use Rattle.scenefile.specs.Rows.{row, rows, Nobodys}
 use Rattle.scenefile.specs.declared.counts.Counts.{Counts}
@@ -11,7 +11,7 @@ use Rattle.scenefile.specs.declared.counts.Rooms.{Rooms}
 use Rattle.space.specs.Refusals.{number}
 use Rattle.space.specs.declared.refusal.Refusal.{Refusal}
 use Rattle.space.specs.declared.refusal.Refusal.TheVariants.{Unused}
-use Rattle.space.specs.declared.refusal.Table.TheVariants.{Solids, Joints, Nodes}
+use Rattle.space.specs.declared.refusal.Table.TheVariants.{Solids}
 use Rattle.std.specs.List.{AllByRecursion as All}
 use Rattle.tree.specs.Rows.{node_symbol}
 use Rattle.tree.specs.declared.node.Node.{Node}

@@ -1,5 +1,5 @@
 -- Where a record lies in a file. Assumes nothing.
-use Rattle.std.proofs.Common.{◌≡◌, ℕ, suc, ◌+◌, ◌*◌, ◌<◌, ◌≤◌, mul-le-mul_left, mul-suc, arith}
+use Rattle.std.proofs.Common.{◌≡◌, ℕ, ◌+◌, ◌*◌, ◌<◌, ◌≤◌, mul-le-mul_left, mul-suc, arith}
 
 -- record i of n lies within what all n take up
 pub row_inside : (start size n i len s : ℕ) → start + size * n ≤ len → i < n → s ≡ size → start + s * i + s ≤ len

@@ -1,5 +1,5 @@
 -- How a scene file is refused, and what it holds where it is not. Assumes nothing.
-use Rattle.std.specs.Prelude.{◌≡◌, ℕ, ◌<◌, Bool, true, false, ◌⊎◌, List, map, Some, None, ◌≢◌}
+use Rattle.std.specs.Prelude.{◌≡◌, ℕ, ◌<◌, true, false, ◌⊎◌, List, map, Some, None, ◌≢◌}
 use Rattle.records.specs.Node.{node_record}
 use Rattle.scene.specs.Lists.{named, all_named}
 use Rattle.scene.specs.Used.{names, all_used}

@@ -1,5 +1,5 @@
 -- The records of a file's tables. Assumes nothing.
-use Rattle.std.specs.Prelude.{◌≡◌, ℕ, ◌+◌, ◌*◌, ◌<◌, List, map, take, drop, ◌≢◌}
+use Rattle.std.specs.Prelude.{ℕ, ◌+◌, ◌*◌, ◌<◌, List, map, take, drop, ◌≢◌}
 use Rattle.std.specs.List.{range_with_len}
 
 -- record i of a table that begins at `start` and has records of `size` bytes

@@ -21,7 +21,7 @@ pub fn load<M: Make>(
     nodes: &mut [Node],
     list: &mut [Entry],
 ) -> Result<Counts, Refusal>
-    ensures outcome { Outcome make M.Solid.Record.size M.Solid.Record.written M.Joint.Record.written bytes.now (record { solids = solids.entry.now; joints = joints.old; nodes = nodes.old; list = list.old }) (record { solids = solids.exit.now; joints = joints.new; nodes = nodes.new; list = list.new }) result }
+    ensures outcome { Outcome M.make M.Solid.Record.size M.Solid.Record.written M.Joint.Record.written bytes.now (record { solids = solids.old; joints = joints.old; nodes = nodes.old; list = list.old }) (record { solids = solids.new; joints = joints.new; nodes = nodes.new; list = list.new }) result }
     ensures unused { IfErr result (λ e. (n : ℕ) → e ≡ Unused n → UnusedSolid M.Solid.Record.size bytes.now n) }
 {
     let rooms = Rooms {

@@ -15,7 +15,7 @@ pub fn read<'a, M: Make>(
     bytes: &[u8],
     tables: Tables<'a, M::Solid, M::Joint>,
 ) -> Result<Scene<'a, M::Solid, M::Joint>, Unread<'a, M::Solid, M::Joint>>
-    ensures scene { MatchResult result (λ s. SceneOf make M.Solid.Record.size M.Solid.Record.written M.Joint.Record.written bytes.now (record { solids = length tables.entry.solids.now; joints = length tables.entry.joints.now; nodes = length tables.entry.nodes.now; list = length tables.entry.list.now }) s.solids.now s.joints.now s.nodes.now) (λ u. Refused make M.Solid.Record.size M.Solid.Record.written M.Joint.Record.written bytes.now (record { solids = length tables.entry.solids.now; joints = length tables.entry.joints.now; nodes = length tables.entry.nodes.now; list = length tables.entry.list.now }) u.refusal) }
+    ensures scene { MatchResult result (λ s. SceneOf M.make M.Solid.Record.size M.Solid.Record.written M.Joint.Record.written bytes.now (record { solids = length tables.entry.solids.now; joints = length tables.entry.joints.now; nodes = length tables.entry.nodes.now; list = length tables.entry.list.now }) s.solids.now s.joints.now s.nodes.now) (λ u. Refused M.make M.Solid.Record.size M.Solid.Record.written M.Joint.Record.written bytes.now (record { solids = length tables.entry.solids.now; joints = length tables.entry.joints.now; nodes = length tables.entry.nodes.now; list = length tables.entry.list.now }) u.refusal) }
     ensures kept { IfErr result (λ u. (u.tables.solids.now ≡ tables.entry.solids.now) × (u.tables.joints.now ≡ tables.entry.joints.now) × (u.tables.nodes.now ≡ tables.entry.nodes.now) × (u.tables.list.now ≡ tables.entry.list.now)) }
     ensures unused { IfErr result (λ u. (n : ℕ) → u.refusal ≡ Unused n → UnusedSolid M.Solid.Record.size bytes.now n) }
 {

@@ -1,8 +1,8 @@
 -- A checked scene can be stored. Assumes nothing.
-use Rattle.std.proofs.Common.{◌≡◌, ℕ, zero, suc, ◌<◌, ◌≤◌, Bool, true, false, ltb, List, [], ◌∷◌, ◌++◌, map, length, Some, None, sym, refl, ap, ◌∙◌, arith}
+use Rattle.std.proofs.Common.{◌≡◌, ℕ, ◌≤◌, true, ltb, List, [], ◌∷◌, map, length, None, arith}
 use Rattle.roundtrip.specs.RoundTrip.{Storable}
 use Rattle.scene.proofs.Wholes.{from_in_order}
-use Rattle.scene.specs.Lists.{named, all_named}
+use Rattle.scene.specs.Lists.{all_named}
 use Rattle.scene.specs.Used.{all_used}
 use Rattle.std.proofs.lemmas.List.{length-map}
 use Rattle.std.proofs.lemmas.Bool.{and_parts, ltb-true}

@@ -1,10 +1,9 @@
 -- A scene file laid over an output, table by table. Assumes nothing.
-use Rattle.std.proofs.Common.{◌≡◌, ℕ, ◌+◌, ◌*◌, ◌<◌, ◌≤◌, true, false, cond, leb, List, [], ◌∷◌, ◌++◌, map, length, take, drop, Ok, Err, Result, sym, refl, ap, ◌∙◌, subst, ap₂, append_assoc, arith, length-append, drop-drop, take_at, drop_at}
+use Rattle.std.proofs.Common.{◌≡◌, ℕ, ◌+◌, ◌*◌, ◌<◌, ◌≤◌, true, cond, leb, List, ◌++◌, map, length, take, drop, Ok, Err, sym, refl, ap, ◌∙◌, subst, ap₂, append_assoc, arith, length-append, drop-drop, take_at, drop_at}
 use Rattle.records.specs.Node.{node_record}
 use Rattle.records.specs.Put.{put}
 use Rattle.roundtrip.proofs.Pieces.{length_records}
 use Rattle.roundtrip.specs.Bytes.{concat, header_bytes, file_bytes}
-use Rattle.space.specs.declared.refusal.Refusal.{Refusal}
 use Rattle.space.specs.declared.refusal.Refusal.TheVariants.{Output}
 use Rattle.std.proofs.lemmas.Bool.{le-leb, lt-leb}
 use Rattle.tree.specs.declared.node.Node.{Node}

@@ -19,8 +19,8 @@ pub fn rewrite<M: Make>(
     list: &mut [Entry],
     out: &mut [u8],
 ) -> Result<usize, Refusal>
-    ensures output { Rewritten make M.Solid.Record.size M.Solid.Record.written M.Joint.Record.written bytes.now (record { solids = length solids.entry.now; joints = length joints.old; nodes = length nodes.old; list = length list.old }) out.old out.new result }
-    ensures tables { RewrittenByTables make M.Solid.Record.size M.Solid.Record.written M.Joint.Record.written bytes.now (record { solids = solids.entry.now; joints = joints.old; nodes = nodes.old; list = list.old }) (record { solids = solids.exit.now; joints = joints.new; nodes = nodes.new; list = list.new }) out.old out.new result }
+    ensures output { Rewritten M.make M.Solid.Record.size M.Solid.Record.written M.Joint.Record.written bytes.now (record { solids = length solids.old; joints = length joints.old; nodes = length nodes.old; list = length list.old }) out.old out.new result }
+    ensures tables { RewrittenByTables M.make M.Solid.Record.size M.Solid.Record.written M.Joint.Record.written bytes.now (record { solids = solids.old; joints = joints.old; nodes = nodes.old; list = list.old }) (record { solids = solids.new; joints = joints.new; nodes = nodes.new; list = list.new }) out.old out.new result }
 {
     match load::<M>(bytes, solids, joints, nodes, list) {
         Ok(counts) => {

@@ -6,8 +6,8 @@ use records::record::Record;
 
 // Lays the records of rows over an output from a place on.
 pub(crate) fn write_rows<R: Record>(rows: &[R], out: &mut [u8], start: usize)
-    requires { start + size * length rows.now ≤ length out.old }
-    ensures { out.new ≡ take start out.old ++ (concat (map written rows.now) ++ drop (start + size * length rows.now) out.old) }
+    requires { start + R.size * length rows.now ≤ length out.old }
+    ensures { out.new ≡ take start out.old ++ (concat (map R.written rows.now) ++ drop (start + R.size * length rows.now) out.old) }
 {
     let size = R::size();
     let mut at = start;

@@ -20,9 +20,9 @@ pub fn write<M: Make>(
     scene: &Scene<'_, M::Solid, M::Joint>,
     out: &mut [u8],
 ) -> Result<usize, Refusal>
-    ensures answer { result ≡ written_length (file_bytes make M.Solid.Record.size M.Solid.Record.written M.Joint.Record.written scene.now.solids.now scene.now.joints.now scene.now.nodes.now) out.old }
-    ensures after { out.new ≡ put (file_bytes make M.Solid.Record.size M.Solid.Record.written M.Joint.Record.written scene.now.solids.now scene.now.joints.now scene.now.nodes.now) out.old }
-    ensures again { (rooms : Rooms) → RoomFor (length scene.now.solids.now) (length scene.now.joints.now) (length scene.now.nodes.now) rooms → ReadsBack M.Solid.Record.size M.Solid.Record.written M.Joint.Record.written make (file_bytes make M.Solid.Record.size M.Solid.Record.written M.Joint.Record.written scene.now.solids.now scene.now.joints.now scene.now.nodes.now) rooms scene.now.solids.now scene.now.joints.now scene.now.nodes.now }
+    ensures answer { result ≡ written_length (file_bytes M.make M.Solid.Record.size M.Solid.Record.written M.Joint.Record.written scene.now.solids.now scene.now.joints.now scene.now.nodes.now) out.old }
+    ensures after { out.new ≡ put (file_bytes M.make M.Solid.Record.size M.Solid.Record.written M.Joint.Record.written scene.now.solids.now scene.now.joints.now scene.now.nodes.now) out.old }
+    ensures again { (rooms : Rooms) → RoomFor (length scene.now.solids.now) (length scene.now.joints.now) (length scene.now.nodes.now) rooms → ReadsBack M.Solid.Record.size M.Solid.Record.written M.Joint.Record.written M.make (file_bytes M.make M.Solid.Record.size M.Solid.Record.written M.Joint.Record.written scene.now.solids.now scene.now.joints.now scene.now.nodes.now) rooms scene.now.solids.now scene.now.joints.now scene.now.nodes.now }
 {
     let size = M::Solid::size();
     let solids = scene.solids.len();

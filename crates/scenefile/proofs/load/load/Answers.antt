@@ -1,15 +1,15 @@
 use Rattle.std.proofs.Common.{◌≡◌, ◌≤◌, length, take, drop, None, sym, refl, ap, ◌∙◌, subst, rules}
-use Rattle.scenefile.specs.Checks.{Refused, Checked, TreeFine}
+use Rattle.scenefile.specs.Checks.{Refused, TreeFine}
 use Rattle.scenefile.specs.Header.{header_fault}
-use Rattle.scenefile.specs.Load.{Held, rooms_of}
+use Rattle.scenefile.specs.Load.{rooms_of}
 use Rattle.tree.specs.Rows.{whole_entries}
 use Rattle.scenefile.proofs.Loads.{solids_inside, solids_fine, solid_rows_are, joints_inside, joints_fine, joint_rows_are, unused_solid, front_is}
 use Rattle.scenefile.proofs.load.load.Goals as goal
 
 pub fill-requires : goal.fill-requires
 fill-requires g c =
-    let S = g.Solid.Record in
-    let J = g.Joint.Record in
+    let S = g.M.Solid.Record in
+    let J = g.M.Joint.Record in
     let b = c.args.bytes.now in
     let checked = c.in-Ok.ensures in
     record {
@@ -20,8 +20,8 @@ fill-requires g c =
 
 pub fill-requires-in-Ok : goal.fill-requires-in-Ok
 fill-requires-in-Ok g c =
-    let S = g.Solid.Record in
-    let J = g.Joint.Record in
+    let S = g.M.Solid.Record in
+    let J = g.M.Joint.Record in
     let b = c.args.bytes.now in
     let checked = c.in-Ok.ensures in
     record {
@@ -32,8 +32,8 @@ fill-requires-in-Ok g c =
 
 pub returns-in-Ok : goal.returns-in-Ok
 returns-in-Ok g c =
-    let S = g.Solid.Record in
-    let J = g.Joint.Record in
+    let S = g.M.Solid.Record in
+    let J = g.M.Joint.Record in
     let b = c.args.bytes.now in
     let counts = c.in-Ok.counts in
     let n = counts.nodes in
@@ -60,8 +60,8 @@ returns-in-Ok g c =
 
 pub returns-in-Err : goal.returns-in-Err
 returns-in-Err g c =
-    let S = g.Solid.Record in
-    let J = g.Joint.Record in
+    let S = g.M.Solid.Record in
+    let J = g.M.Joint.Record in
     let b = c.args.bytes.now in
     let rooms = rooms_of (record { solids = c.args.solids.now; joints = c.args.joints.now; nodes = c.args.nodes.now; list = c.args.list.now }) in
     let refused = subst (λ m. Refused m S.size S.written J.written b rooms c.in-Err.e) c.make.ensures c.in-Err.ensures in

@@ -1,4 +1,4 @@
-use Rattle.std.proofs.Common.{◌≡◌, ℕ, suc, ◌+◌, ◌<◌, ◌≤◌, false, List, ◌∷◌, map, length, get_or, drop, Some, sym, ap, ◌∙◌, arith}
+use Rattle.std.proofs.Common.{◌≡◌, ℕ, suc, ◌<◌, false, List, ◌∷◌, map, length, get_or, drop, Some, sym, ap, ◌∙◌, arith}
 use Rattle.scene.proofs.Loops.{symbol_here}
 use Rattle.std.proofs.lemmas.List.{length-map}
 use Rattle.tree.specs.Order.{order_fault}
@@ -47,12 +47,12 @@ loop-i-preserved c =
     let o = order_fault 0 0 l in
     let at = here xs i c.loop-i-test.true in
     elim c.if-is_solid.branch [
-      | then-is-solid+else-waiting-ge64 w ↦
+      | then-is_solid+else-waiting-ge64 w ↦
           rw w.waiting-is (
             solid_on l i (row xs i) at c.loop-i.waiting o c.loop-i.invariant.0 (sym c.is_solid.ensures ∙ w.if-is_solid.true) w.if-waiting-ge64.false,
             omega (arith, w.if-waiting-ge64.false),
           )
-      | else-is-solid+else-waiting-lt2 w ↦
+      | else-is_solid+else-waiting-lt2 w ↦
           rw w.waiting-is (
             operator_on l i (row xs i) at c.loop-i.waiting o c.loop-i.invariant.0 (sym c.is_solid.ensures ∙ w.if-is_solid.false) w.if-waiting-lt2.false,
             omega (arith, c.loop-i.invariant.1),

@@ -1,5 +1,4 @@
-use Rattle.std.proofs.Common.{◌≡◌, ◌&&◌, map, sym, ◌∙◌, ap₂, add-one}
-use Rattle.tree.specs.Rows.{node_symbol}
+use Rattle.std.proofs.Common.{◌&&◌, sym, ◌∙◌, ap₂, add-one}
 use Rattle.scenefile.proofs.order.find_unused.Goals as goal
 
 pub loop-s-preserved : goal.loop-s-preserved

@@ -1,4 +1,4 @@
-use Rattle.std.proofs.Common.{◌≡◌, ◌<◌, ◌≤◌, false, map, length, get_or, sym, ◌∙◌, arith}
+use Rattle.std.proofs.Common.{◌≡◌, false, map, length, get_or, sym, ◌∙◌, arith}
 use Rattle.scene.proofs.Loops.{symbol_here}
 use Rattle.scene.specs.Used.{names}
 use Rattle.std.proofs.lemmas.List.{length-map}

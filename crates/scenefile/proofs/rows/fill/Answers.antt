@@ -1,5 +1,4 @@
-use Rattle.std.proofs.Common.{◌<◌, length, drop, ap, ◌∙◌, arith}
-use Rattle.scenefile.specs.Rows.{row}
+use Rattle.std.proofs.Common.{◌<◌, length, ◌∙◌, arith}
 use Rattle.scenefile.proofs.Readings.{rows_more, drop_set}
 use Rattle.scenefile.proofs.rows.fill.Goals as goal
 use Rattle.scenefile.proofs.rows.fill.Goals.{in-Some, in-None}

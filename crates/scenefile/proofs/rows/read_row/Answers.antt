@@ -1,4 +1,4 @@
-use Rattle.std.proofs.Common.{◌+◌, ◌*◌, ◌≤◌, length, ap, arith, rules}
+use Rattle.std.proofs.Common.{length, rules}
 use Rattle.scenefile.proofs.Places.{row_inside}
 use Rattle.scenefile.proofs.rows.read_row.Goals as goal
 

@@ -1,5 +1,5 @@
 use Rattle.std.proofs.Common.{◌++◌, refl, ap₂}
-use Rattle.records.specs.LittleEndian.{u16_le, u32_le}
+use Rattle.records.specs.LittleEndian.{u32_le}
 use Rattle.writer.proofs.Digits.{two_bytes, four_bytes}
 use Rattle.writer.proofs.header.header.Goals as goal
 

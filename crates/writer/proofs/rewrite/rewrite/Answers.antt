@@ -3,10 +3,12 @@ use Rattle.records.specs.Node.{node_record}
 use Rattle.records.specs.Put.{put}
 use Rattle.roundtrip.proofs.Again.{read_then_written, read_has_room}
 use Rattle.scenefile.specs.Checks.{Refused}
-use Rattle.scenefile.specs.Load.{SceneOf}
+use Rattle.scenefile.specs.Load.{Held, SceneOf}
 use Rattle.scenefile.specs.declared.counts.Rooms.{Rooms}
 use Rattle.space.specs.declared.refusal.Refusal.{Refusal}
+use Rattle.writer.specs.Rewrite.{RewrittenByTables}
 use Rattle.writer.specs.Write.{written_length}
+use Rattle.writer.proofs.Outputs.{output_of}
 use Rattle.writer.proofs.rewrite.rewrite.Goals as goal
 
 -- a front that is cut off at 0
@@ -16,8 +18,8 @@ none_less n = omega arith
 pub returns-in-Ok : goal.returns-in-Ok
 returns-in-Ok g c =
     let make = g.M.Make.make in
-    let S = g.Solid.Record in
-    let J = g.Joint.Record in
+    let S = g.M.Solid.Record in
+    let J = g.M.Joint.Record in
     let n = c.in-Ok.counts in
     let loaded = c.in-Ok.ensures.outcome in
     let is = c.load.new in
@@ -36,10 +38,17 @@ returns-in-Ok g c =
     } in
     let same = read_then_written S.size S.written J.written make bytes rooms solids joints nodes small of in
     let room = read_has_room S.size S.written J.written make bytes rooms solids joints nodes small of in
+    let held : Held _ _ = record { solids = c.args.solids.now; joints = c.args.joints.now; nodes = c.args.nodes.now; list = c.args.list.now } in
+    let holds : Held _ _ = record { solids = is.solids; joints = is.joints; nodes = is.nodes; list = is.list } in
+    let whole : RewrittenByTables make S.size S.written J.written bytes held holds was c.write.new.out c.write.result =
     inl (record {
       none_refuses = subst (λ f. (e : Refusal) → Refused make S.size S.written J.written f rooms e → ⊥) same (c.write.ensures.again rooms room).accepted;
       counts = n;
       loaded = loaded;
       answer = c.write.ensures.answer ∙ ap (λ f. written_length f was) same;
       after = c.write.ensures.after ∙ ap (λ f. put f was) same;
-    })
+    }) in
+    record {
+      output = output_of make S.size S.written J.written bytes held holds was c.write.new.out c.write.result whole;
+      tables = whole;
+    }

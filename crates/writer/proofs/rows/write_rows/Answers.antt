@@ -1,8 +1,7 @@
-use Rattle.std.proofs.Common.{◌≡◌, ◌+◌, ◌*◌, ◌≤◌, length, sym, ap, ◌∙◌, mul-le-mul_left, mul-zero, mul-suc, add-one, arith, rules}
+use Rattle.std.proofs.Common.{◌≡◌, ◌+◌, ◌*◌, ◌≤◌, length, ap, ◌∙◌, mul-le-mul_left, mul-zero, mul-suc, add-one, arith, rules}
 use Rattle.records.specs.Put.{put}
 use Rattle.std.proofs.lemmas.Slice.{between_to_end}
 use Rattle.writer.proofs.Laying.{rows_none, rows_more, rows_all}
-use Rattle.writer.proofs.rows.write_rows.Given as given
 use Rattle.writer.proofs.rows.write_rows.Goals as goal
 
 pub loop-row-init : goal.loop-row-init

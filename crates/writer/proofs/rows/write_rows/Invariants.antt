@@ -1,4 +1,4 @@
-use Rattle.std.proofs.Common.{◌≡◌, ◌+◌, ◌*◌, ◌≤◌, ◌++◌, map, length, take}
+use Rattle.std.proofs.Common.{◌≡◌, ◌+◌, ◌*◌, ◌++◌, map, take}
 use Rattle.roundtrip.specs.Bytes.{concat}
 use Rattle.writer.proofs.Laying.{Laid}
 use Rattle.writer.proofs.rows.write_rows.Given as goal
