@@ -1,7 +1,6 @@
 // A case, and the count of what came of cases.
 
 // What is asked of a scene.
-
 #[derive(Clone, Copy)]
 pub(crate) enum Ask {
     // the answers to the lines of a script, and the file itself, written back

@@ -19,5 +19,9 @@ invariant_of-next g t c =
     let again = subst (λ (r : Child). ReadyAgain solids joints free (Ok r)) c.in-Near.is c.in-Ok.ensures.again in
     let parts = c.split_at_mut-list in
     let list = parts.result.0.now in
-    let e = front_evaluable solids joints free list parts.result.1.now c.in-Near.length parts.ensures.value parts.ensures.front-len again.1 in
-    (e.within, (listing_ordered solids joints list e, (listing_short solids joints list e, tt)))
+    let e = front_evaluable solids joints free list parts.result.1.now c.in-Near.length parts.ensures.value parts.ensures.front_len again.1 in
+    record {
+      named = e.within;
+      ordered = listing_ordered solids joints list e;
+      short = listing_short solids joints list e;
+    }
