@@ -1,5 +1,5 @@
 -- A node table looked through row by row. Assumes nothing.
-use Rattle.std.proofs.Common.{◌≡◌, ℕ, suc, pred, ◌+◌, ◌-◌, ◌<◌, ◌≤◌, Bool, true, false, cond, ◌||◌, ltb, List, [], ◌∷◌, length, drop, Some, None, Option, sym, refl, ap, ◌∙◌, add-one, arith}
+use Rattle.std.proofs.Common.{◌⊎◌, inl, inr, ◌≡◌, ℕ, suc, pred, ◌+◌, ◌-◌, ◌<◌, ◌≤◌, Bool, true, false, cond, ◌||◌, ltb, List, [], ◌∷◌, length, drop, Some, None, Option, sym, refl, ap, ◌∙◌, add-one, arith}
 use lib.Seq.{drop-length}
 use Rattle.std.proofs.lemmas.Bool.{lt-ltb, le-ltb, ne_eqb}
 use Rattle.scene.specs.Used.{names, names_it}
@@ -25,16 +25,21 @@ module _ (l : List Symbol) (i : ℕ) (s : Symbol) (here : drop i l ≡ s ∷ dro
     pub solid_over : is_solid s ≡ true → 64 ≤ w → Some i ≡ o
     solid_over kind full = sym (solid_way s kind ∙ ap (λ b. cond b (order_fault (suc i) (suc w) (drop (suc i) l)) (Some i)) (le-ltb w 64 full)) ∙ at
 
-    pub solid_on : is_solid s ≡ true → w < 64 → order_fault (i + 1) (w + 1) (drop (i + 1) l) ≡ o
+    solid_on : is_solid s ≡ true → w < 64 → order_fault (i + 1) (w + 1) (drop (i + 1) l) ≡ o
     solid_on kind room = rw (add-one, add-one) (sym (solid_way s kind ∙ ap (λ b. cond b (order_fault (suc i) (suc w) (drop (suc i) l)) (Some i)) (lt-ltb w 64 room)) ∙ at)
 
     pub operator_over : is_solid s ≡ false → w < 2 → Some i ≡ o
     operator_over kind short = sym (operator_way s kind ∙ ap (λ b. cond b (Some i) (order_fault (suc i) (pred w) (drop (suc i) l))) (lt-ltb w 2 short)) ∙ at
 
-    pub operator_on : is_solid s ≡ false → 2 ≤ w → order_fault (i + 1) (w - 1) (drop (i + 1) l) ≡ o
+    operator_on : is_solid s ≡ false → 2 ≤ w → order_fault (i + 1) (w - 1) (drop (i + 1) l) ≡ o
     operator_on kind both =
         let less : w - 1 ≡ pred w = omega arith in
         rw (add-one, less) (sym (operator_way s kind ∙ ap (λ b. cond b (Some i) (order_fault (suc i) (pred w) (drop (suc i) l))) (le-ltb w 2 both)) ∙ at)
+
+    -- symbol i is behind, and w' values wait
+    pub row_on : w ≤ 64 → (w' : ℕ) → ((is_solid s ≡ true) × (w < 64) × (w' ≡ w + 1)) ⊎ ((is_solid s ≡ false) × (2 ≤ w) × (w' ≡ w - 1)) → (order_fault (i + 1) w' (drop (i + 1) l) ≡ o) × (w' ≤ 64)
+    row_on few w' (inl (kind, room, is)) = (ap (λ k. order_fault (i + 1) k (drop (i + 1) l)) is ∙ solid_on kind room, omega arith)
+    row_on few w' (inr (kind, both, is)) = (ap (λ k. order_fault (i + 1) k (drop (i + 1) l)) is ∙ operator_on kind both, omega arith)
 
   -- a symbol that names the solid, or not
   pub named_here : (n : ℕ) (b : Bool) → names n (drop i l) ≡ b → names_it n s ≡ true → true ≡ b

@@ -1,14 +1,14 @@
-use Rattle.std.proofs.Common.{◌≡◌, ℕ, suc, ◌<◌, false, List, ◌∷◌, map, length, get_or, drop, Some, sym, ap, ◌∙◌, arith}
+use Rattle.std.proofs.Common.{true, ◌⊎◌, ◌-◌, ◌≤◌, ◌+◌, ◌≡◌, ℕ, suc, ◌<◌, false, List, ◌∷◌, map, length, get_or, drop, Some, sym, ap, ◌∙◌, arith}
 use Rattle.scene.proofs.Loops.{symbol_here}
+use Rattle.std.proofs.lemmas.Grind.{common_steps}
 use Rattle.std.proofs.lemmas.List.{length-map}
 use Rattle.tree.specs.Order.{order_fault}
 use Rattle.tree.specs.Rows.{node_symbol}
-use Rattle.tree.specs.Spell.{Symbol}
+use Rattle.tree.specs.Spell.{Symbol, is_solid}
 use Rattle.tree.specs.declared.node.Node.{Node}
 use Rattle.tree.specs.declared.node.NodeKind.TheVariants.{Solid}
-use Rattle.scenefile.proofs.Orders.{solid_over, solid_on, operator_over, operator_on, end_one, end_other}
+use Rattle.scenefile.proofs.Orders.{solid_over, operator_over, row_on, end_one, end_other}
 use Rattle.scenefile.proofs.order.find_order_fault.Goals as goal
-use Rattle.scenefile.proofs.order.find_order_fault.Goals.{then-is_solid+else-waiting-ge64, else-is_solid+else-waiting-lt2}
 
 -- the row at place i, as the loop reads it
 abbrev row : List Node → ℕ → Symbol
@@ -46,18 +46,9 @@ loop-i-preserved c =
     let l = map node_symbol xs in
     let o = order_fault 0 0 l in
     let at = here xs i c.loop-i-test.true in
-    elim c.if-is_solid.branch [
-      | then-is_solid+else-waiting-ge64 w ↦
-          rw w.waiting-is (
-            solid_on l i (row xs i) at c.loop-i.waiting o c.loop-i.invariant.0 (sym c.is_solid.ensures ∙ w.if-is_solid.true) w.if-waiting-ge64.false,
-            omega (arith, w.if-waiting-ge64.false),
-          )
-      | else-is_solid+else-waiting-lt2 w ↦
-          rw w.waiting-is (
-            operator_on l i (row xs i) at c.loop-i.waiting o c.loop-i.invariant.0 (sym c.is_solid.ensures ∙ w.if-is_solid.false) w.if-waiting-lt2.false,
-            omega (arith, c.loop-i.invariant.1),
-          )
-    ]
+    let w = c.loop-i.waiting in
+    let way : ((is_solid (row xs i) ≡ true) × (w < 64) × (c.if-is_solid.waiting ≡ w + 1)) ⊎ ((is_solid (row xs i) ≡ false) × (2 ≤ w) × (c.if-is_solid.waiting ≡ w - 1)) = grind (arith, common_steps) in
+    row_on l i (row xs i) at w o c.loop-i.invariant.0 c.loop-i.invariant.1 c.if-is_solid.waiting way
 
 pub returns-then-waiting-eq1 : goal.returns-then-waiting-eq1
 returns-then-waiting-eq1 c =
