@@ -21,13 +21,13 @@ abbrev pub pt : ℕ → ℕ → ℕ → Pt
 pt x y z = record { x = pos x; y = pos y; z = pos z }
 
 abbrev pub point : (x y z : ℕ) → T (nat_le x 8191) → T (nat_le y 8191) → T (nat_le z 8191) → Point
-point x y z x-low y-low z-low = record {
+point x y z x_low y_low z_low = record {
   x = pos x;
   y = pos y;
   z = pos z;
-  x_in = (record { le = tt }, record { le = x-low });
-  y_in = (record { le = tt }, record { le = y-low });
-  z_in = (record { le = tt }, record { le = z-low });
+  x_in = (record { le = tt }, record { le = x_low });
+  y_in = (record { le = tt }, record { le = y_low });
+  z_in = (record { le = tt }, record { le = z_low });
 }
 
 abbrev pub origin : Point

@@ -21,10 +21,10 @@ use Rattle.paths.specs.Held.{Held, near, far, marked, descended, held, Says, Fit
 module _ (P : Parts) (law : Lawful P) (C : ℕ) (two : 2 ≤ C) where
   -- a mark, at a point within R of the centre
   marked_says : (R : ℕ) (middle p : Pt) → InSpace middle → InSpace p → apart² middle p ≤ R * R → (u : Tree) (v : ℤ) → value P u p ≡ v → Says P (marked C R (value P u middle) u) p v
-  marked_says R middle p m-in p_in close u v e = go (is_far C R (value P u middle)) refl
+  marked_says R middle p m_in p_in close u v e = go (is_far C R (value P u middle)) refl
     where
       go : (out : Bool) → is_far C R (value P u middle) ≡ out → Says P (cond out (far (far_constant R (value P u middle))) (near u)) p v
-      go true beyond = subst (Bound (far_constant R (value P u middle))) e (far_law P law u middle p C R two m-in p_in close (ltb-true _ _ beyond))
+      go true beyond = subst (Bound (far_constant R (value P u middle))) e (far_law P law u middle p C R two m_in p_in close (ltb-true _ _ beyond))
       go false beyond = e
 
   pub descended_says : (c : Cube) → Inside c → (p : Pt) → In c p → (h : Held) (v : ℤ) → Says P h p v → Says P (descended P C c h) p v

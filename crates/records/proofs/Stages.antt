@@ -6,4 +6,4 @@ use Rattle.records.specs.Reads.{Reads}
 module _ {X Y Z : Type 0} (f : X → Y) (g : Y → Z) (y : Y) (z : Z) (is : g y ≡ z) (only : (x : X) → g (f x) ≡ z → f x ≡ y) where
   pub reads_through : (r : Option X) → Reads f y r → Reads (λ x. g (f x)) z r
   reads_through (Some x) e = ap g e ∙ is
-  reads_through None no-x = λ x e. no-x x (only x e)
+  reads_through None no_x = λ x e. no_x x (only x e)

@@ -6,17 +6,17 @@ use Rattle.scenefile.specs.declared.counts.Rooms.{Rooms}
 use Rattle.space.specs.declared.refusal.Refusal.{Refusal}
 use Rattle.space.specs.declared.refusal.Table.TheVariants.{Solids, Joints, Nodes}
 use Rattle.std.proofs.lemmas.Bool.{not-false, not_from_true, ltb-false, le-ltb, leb-true, le-leb, eqb-true, eq-eqb, and_parts, and_from}
-use Rattle.std.specs.List.{AllByRecursion as All}
+use Rattle.std.specs.List.{AllByRecursion}
 
-all_pass : (l : List (Bool × Refusal)) → first_fault l ≡ None → All (λ x. x.0 ≡ false) l
+all_pass : (l : List (Bool × Refusal)) → first_fault l ≡ None → AllByRecursion (λ x. x.0 ≡ false) l
 all_pass [] none = tt
 all_pass (x ∷ rest) none = go x.0 none (all_pass rest)
   where
-    go : (b : Bool) → cond b (Some x.1) (first_fault rest) ≡ None → (first_fault rest ≡ None → All (λ y. y.0 ≡ false) rest) → (b ≡ false) × All (λ y. y.0 ≡ false) rest
+    go : (b : Bool) → cond b (Some x.1) (first_fault rest) ≡ None → (first_fault rest ≡ None → AllByRecursion (λ y. y.0 ≡ false) rest) → (b ≡ false) × AllByRecursion (λ y. y.0 ≡ false) rest
     go true found later = let z : ◌≡◌ {A = ℕ} 0 1 = cc in absurd (let f : ⊥ = omega arith in f)
     go false found later = (refl, later found)
 
-none_found : (l : List (Bool × Refusal)) → All (λ x. x.0 ≡ false) l → first_fault l ≡ None
+none_found : (l : List (Bool × Refusal)) → AllByRecursion (λ x. x.0 ≡ false) l → first_fault l ≡ None
 none_found [] all = refl
 none_found (x ∷ rest) all = ap (λ b. cond b (Some x.1) (first_fault rest)) all.0 ∙ none_found rest all.1
 

@@ -16,14 +16,14 @@ use Rattle.std.proofs.lemmas.List.FromFn.{length-map-range_with_len, get_or-map-
 use Rattle.std.proofs.ByRecursion.{All-get_or}
 use Rattle.std.proofs.lemmas.List.{get_or-map}
 use Rattle.std.proofs.lemmas.Bool.{and_parts, both_ways, cases_lt}
-use Rattle.std.specs.List.{range_with_len, AllByRecursion as All}
+use Rattle.std.specs.List.{range_with_len, AllByRecursion}
 use Rattle.tree.specs.Order.{order_fault, in_order}
 use Rattle.tree.specs.Rows.{node_symbol}
 use Rattle.tree.specs.Spell.{Symbol}
 use Rattle.tree.specs.declared.node.Node.{Node}
 
 -- of a table whose records are n rows, row k is the record of a value of which P holds
-owner : {X : Type 0} (written : X → List ℕ) (P : X → Type 0) (xs : List X) (rows : ℕ → List ℕ) (n k : ℕ) → map written xs ≡ map rows (range_with_len 0 n) → All P xs → k < n → (x : X) × (written x ≡ rows k) × P x
+owner : {X : Type 0} (written : X → List ℕ) (P : X → Type 0) (xs : List X) (rows : ℕ → List ℕ) (n k : ℕ) → map written xs ≡ map rows (range_with_len 0 n) → AllByRecursion P xs → k < n → (x : X) × (written x ≡ rows k) × P x
 owner written P [] rows n k are all below = absurd (let f : ⊥ = omega (arith, ap length are ∙ length-map-range_with_len rows 0 n) in f)
 owner written P (y ∷ ys) rows n k are all below =
     let xs = y ∷ ys in
@@ -31,11 +31,11 @@ owner written P (y ∷ ys) rows n k are all below =
     let inside : k < length xs = omega arith in
     (get_or xs k y, sym (get_or-map written xs k y [] inside) ∙ ap (λ l. get_or l k []) are ∙ get_or-map-range_with_len rows 0 n k k [] below (omega arith), All-get_or P xs k y inside all)
 
-any : {X : Type 0} (xs : List X) → All (λ x. Unit {0}) xs
+any : {X : Type 0} (xs : List X) → AllByRecursion (λ x. Unit {0}) xs
 any [] = tt
 any (x ∷ xs) = (tt, any xs)
 
-each_named : (solids joints : ℕ) (nodes : List Node) → all_named solids joints (map node_symbol nodes) ≡ true → All (λ x. named solids joints (node_symbol x) ≡ true) nodes
+each_named : (solids joints : ℕ) (nodes : List Node) → all_named solids joints (map node_symbol nodes) ≡ true → AllByRecursion (λ x. named solids joints (node_symbol x) ≡ true) nodes
 each_named solids joints [] all = tt
 each_named solids joints (x ∷ xs) all =
     let both = and_parts (named solids joints (node_symbol x)) (all_named solids joints (map node_symbol xs)) all in

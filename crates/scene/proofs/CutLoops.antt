@@ -80,7 +80,7 @@ module _ (P : Parts) (c : Pt) (R solids joints : ℕ) (list was : List Entry) wh
       one_waits = (at_finish (cut_step P c R) (values P c) [] solids joints (map entry_symbol list) i now.trees w now.mid done).0
 
       pub finishes : (last : Block) (left : List Block) → waiting ≡ last ∷ left → (r : Pruned) → r.length ≡ n → r.value ≡ last.value → CutDown P c R list free r × RestKept list was free
-      finishes last left top r r-long r-value =
+      finishes last left top r r_long r_value =
           let found = (order_law (map entry_symbol list)).0 e.ordered in
           let t = found.0 in
           let ran = (at_finish (cut_step P c R) (values P c) [] solids joints (map entry_symbol list) i now.trees w now.mid done).1 ∙ ap (λ l. cut_run P c R l []) (sym found.1) ∙ cut_run_tree P c R t in
@@ -88,9 +88,9 @@ module _ (P : Parts) (c : Pt) (R solids joints : ℕ) (list was : List Entry) wh
             record {
               tree = t;
               spelled = found.1;
-              entries = ap (λ k. map entry_symbol (take k free)) r-long ∙ laid.front;
-              long = r-long ∙ laid.many;
-              at_centre = r-value ∙ one_tree P c last left (prune P c R t) (sym top ∙ laid.wait);
+              entries = ap (λ k. map entry_symbol (take k free)) r_long ∙ laid.front;
+              long = r_long ∙ laid.many;
+              at_centre = r_value ∙ one_tree P c last left (prune P c R t) (sym top ∙ laid.wait);
             },
             (now.long, now.beyond),
           )

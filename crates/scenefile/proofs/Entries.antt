@@ -25,9 +25,9 @@ entry_at (x ∷ rest) (suc i) d e h = entry_at rest i d e (le_of_suc-le-suc h)
 
 -- one entry more
 pub entries_more : (nodes : List Node) (list : List Entry) (i : ℕ) (d : Node) (x : Entry) → i < length nodes → i < length list → x ≡ node_entry (cut_next (drop (i + 1) nodes)) (get_or nodes i d) → take i list ≡ take i (whole_entries nodes) → take (i + 1) (set list i x) ≡ take (i + 1) (whole_entries nodes)
-entries_more nodes list i d x in-nodes in_List is so_far =
+entries_more nodes list i d x in_nodes in_List is so_far =
     let in_whole : i < length (whole_entries nodes) = omega (arith, length_whole nodes) in
-    let there : get_or (whole_entries nodes) i x ≡ x = entry_at nodes i d x in-nodes ∙ sym (is ∙ ap (λ k. node_entry (cut_next (drop k nodes)) (get_or nodes i d)) (add-one i)) in
+    let there : get_or (whole_entries nodes) i x ≡ x = entry_at nodes i d x in_nodes ∙ sym (is ∙ ap (λ k. node_entry (cut_next (drop k nodes)) (get_or nodes i d)) (add-one i)) in
     take_more_set list i x in_List
     ∙ ap (λ front. front ++ (x ∷ [])) so_far
     ∙ ap (λ y. take i (whole_entries nodes) ++ (y ∷ [])) (sym there)

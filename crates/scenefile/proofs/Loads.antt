@@ -12,7 +12,7 @@ use Rattle.space.specs.Refusals.{number}
 use Rattle.space.specs.declared.refusal.Refusal.{Refusal}
 use Rattle.space.specs.declared.refusal.Refusal.TheVariants.{Unused}
 use Rattle.space.specs.declared.refusal.Table.TheVariants.{Solids}
-use Rattle.std.specs.List.{AllByRecursion as All}
+use Rattle.std.specs.List.{AllByRecursion}
 use Rattle.tree.specs.Rows.{node_symbol}
 use Rattle.tree.specs.declared.node.Node.{Node}
 
@@ -58,7 +58,7 @@ front_is xs n h P given =
 other : {X : Type 0} {e f g : Refusal} → e ≡ f → e ≡ g → (number f ≡ number g → ⊥) → X
 other p q apart = absurd (apart (ap number (sym p ∙ q)))
 
-low : (l : List (Bool × Refusal)) (e : Refusal) → All (λ x. number x.1 ≤ 6) l → first_fault l ≡ Some e → number e ≤ 6
+low : (l : List (Bool × Refusal)) (e : Refusal) → AllByRecursion (λ x. number x.1 ≤ 6) l → first_fault l ≡ Some e → number e ≤ 6
 low [] e all fault = let z : ◌≡◌ {A = ℕ} 0 1 = cc in omega arith
 low (x ∷ rest) e all fault = go x.0 fault (low rest e all.1)
   where

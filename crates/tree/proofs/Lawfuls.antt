@@ -6,9 +6,9 @@ use Rattle.tree.specs.Parts.{Parts, Lawful, parts, solid_distance, joint_radius,
 
 module _ {S J : Type 0} (dist : S → Pt → ℤ) (radius : J → ℕ) (fillet : J → ℕ → ℕ) where
   near_all : ((s : S) → DistanceLaw (dist s)) → (solids : List S) (n : ℕ) → DistanceLaw (solid_distance dist solids n)
-  near_all law [] n p q r p_in q-in close = omega arith
-  near_all law (s ∷ rest) zero p q r p_in q-in close = law s p q r p_in q-in close
-  near_all law (s ∷ rest) (suc n) p q r p_in q-in close = near_all law rest n p q r p_in q-in close
+  near_all law [] n p q r p_in q_in close = omega arith
+  near_all law (s ∷ rest) zero p q r p_in q_in close = law s p q r p_in q_in close
+  near_all law (s ∷ rest) (suc n) p q r p_in q_in close = near_all law rest n p q r p_in q_in close
 
   ranged_all : ((s : S) → DistanceRange (dist s)) → (solids : List S) (n : ℕ) → DistanceRange (solid_distance dist solids n)
   ranged_all law [] n p p_in = omega arith

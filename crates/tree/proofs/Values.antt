@@ -45,7 +45,7 @@ handed_near false v w r h = h
 
 pub value_law : ValueLaw
 unfolding value
-value_law P law (leaf turned n) p q r p_in q-in close = handed_near turned _ _ r (law.near n p q r p_in q-in close)
-value_law P law (join op turned n a b) p q r p_in q-in close =
+value_law P law (leaf turned n) p q r p_in q_in close = handed_near turned _ _ r (law.near n p q r p_in q_in close)
+value_law P law (join op turned n a b) p q r p_in q_in close =
     handed_near turned _ _ r
-    (joined_near (law.smooth n) op _ _ _ _ r (value_law P law a p q r p_in q-in close) (value_law P law b p q r p_in q-in close))
+    (joined_near (law.smooth n) op _ _ _ _ r (value_law P law a p q r p_in q_in close) (value_law P law b p q r p_in q_in close))

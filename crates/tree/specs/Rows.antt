@@ -51,7 +51,7 @@ cut_next (row ∷ rest) = is_cut_kind row.kind
 
 -- a node's entry, turned over where it is the second operand of a cut, which then follows it
 abbrev pub node_entry : Bool → Node → Entry
-node_entry cut-follows row = record { kind = entry_kind row.kind; turned = flipped cut-follows row.turned; number = row.number }
+node_entry cut_follows row = record { kind = entry_kind row.kind; turned = flipped cut_follows row.turned; number = row.number }
 
 unfoldable pub whole_entries : List Node → List Entry
 whole_entries [] = []

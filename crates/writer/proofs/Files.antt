@@ -93,8 +93,8 @@ module _ {S J : Type 0} (make size joint_size : ℕ) (solid_record : S → List 
 
       pub laid_file : (head out₁ out₂ out₃ out₄ : List ℕ) → head ≡ header_bytes make size (length solids) (length joints) (length nodes) → out₁ ≡ head ++ drop 20 was → out₂ ≡ take 20 out₁ ++ (concat (map solid_record solids) ++ drop (20 + size * length solids) out₁) → out₃ ≡ take (20 + s * length solids) out₂ ++ (concat (map joint_record joints) ++ drop (20 + s * length solids + joint_size * length joints) out₂) → out₄ ≡ take (20 + s * length solids + 4 * length joints) out₃ ++ (concat (map node_record nodes) ++ drop (20 + s * length solids + 4 * length joints + 4 * length nodes) out₃) → out₄ ≡ put (file_bytes make size solid_record joint_record solids joints nodes) was
       unfolding A B C H
-      laid_file head out₁ out₂ out₃ out₄ head-is one two three last =
-          let first : Laid H was out₁ = one ∙ ap (λ h. h ++ drop 20 was) head-is in
+      laid_file head out₁ out₂ out₃ out₄ head_is one two three last =
+          let first : Laid H was out₁ = one ∙ ap (λ h. h ++ drop 20 was) head_is in
           let second : Laid (H ++ A) was out₂ = laid_next H A was out₁ out₂ 20 (20 + size * length solids) first H_length (omega (arith, A_length, ap (λ k. k * length solids) s_is)) two in
           let third : Laid ((H ++ A) ++ B) was out₃ = laid_next (H ++ A) B was out₂ out₃ (20 + s * length solids) (20 + s * length solids + joint_size * length joints) second (length-append H A ∙ omega (arith, H_length, A_length)) (omega (arith, B_length, ap (λ k. k * length joints) four)) three in
           let fourth : Laid (((H ++ A) ++ B) ++ C) was out₄ = laid_next ((H ++ A) ++ B) C was out₃ out₄ (20 + s * length solids + 4 * length joints) (20 + s * length solids + 4 * length joints + 4 * length nodes) third (length-append (H ++ A) B ∙ omega (arith, length-append H A, H_length, A_length, B_length)) (omega (arith, C_length)) last in

@@ -71,9 +71,9 @@ module _ {R : Type 0} (written : R → List ℕ) (size : ℕ) (sized : (x : R) �
         sym (take-append-drop start was) ∙ ap₂ ◌++◌ (sym (append-nil (take start was))) (ap (λ k. drop k was) (sym len))
 
     pub rows_more : (i : ℕ) (x : R) (out part : List ℕ) (at : ℕ) → at ≡ start + size * i → i < length rows → x ≡ get_or rows i x → length out ≡ length was → Laid (front i) was out → part ≡ put (written x) (drop at out) → Laid (front (i + 1)) was (put_mid at (length out - at) out part)
-    rows_more i x out part at at-is within is long so_far put_is =
+    rows_more i x out part at at_is within is long so_far put_is =
         let next = mul-le-mul_left size within in
-        let at_front : length (front i) ≡ at = front_length i (omega arith) ∙ sym at-is in
+        let at_front : length (front i) ≡ at = front_length i (omega arith) ∙ sym at_is in
         let fits : length (front i) + length (written x) ≤ length was = omega (arith, sized x, mul-suc size i) in
         let inside : at ≤ length out = omega arith in
         part_is out part at inside
