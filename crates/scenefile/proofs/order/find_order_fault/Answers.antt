@@ -1,6 +1,5 @@
 use Rattle.std.proofs.Common.{true, ◌⊎◌, ◌-◌, ◌≤◌, ◌+◌, ◌≡◌, ℕ, suc, ◌<◌, false, List, ◌∷◌, map, length, get_or, drop, Some, sym, ap, ◌∙◌, arith}
 use Rattle.scene.proofs.Loops.{symbol_here}
-use Rattle.std.proofs.lemmas.Grind.{common_steps}
 use Rattle.std.proofs.lemmas.List.{length-map}
 use Rattle.tree.specs.Order.{order_fault}
 use Rattle.tree.specs.Rows.{node_symbol}
@@ -47,7 +46,7 @@ loop-i-preserved c =
     let o = order_fault 0 0 l in
     let at = here xs i c.loop-i-test.true in
     let w = c.loop-i.waiting in
-    let way : ((is_solid (row xs i) ≡ true) × (w < 64) × (c.if-is_solid.waiting ≡ w + 1)) ⊎ ((is_solid (row xs i) ≡ false) × (2 ≤ w) × (c.if-is_solid.waiting ≡ w - 1)) = grind (arith, common_steps) in
+    let way : ((is_solid (row xs i) ≡ true) × (w < 64) × (c.if-is_solid.waiting ≡ w + 1)) ⊎ ((is_solid (row xs i) ≡ false) × (2 ≤ w) × (c.if-is_solid.waiting ≡ w - 1)) = grind arith in
     row_on l i (row xs i) at w o c.loop-i.invariant.0 c.loop-i.invariant.1 c.if-is_solid.waiting way
 
 pub returns-then-waiting-eq1 : goal.returns-then-waiting-eq1
