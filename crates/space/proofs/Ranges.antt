@@ -1,6 +1,6 @@
 -- A number that passes the test of the range is in the range, and fits 16 bits. Assumes nothing.
-use Rattle.std.proofs.Common.{◌≡◌, ℕ, true, T, ℤ, pos, negsuc, sym, ap, ◌∙◌, arith, w16, w32, SFits, to_z, of_z}
-use lib.Signed.{le_z, le_z_yes, mag}
+use Rattle.std.proofs.Common.{◌≡◌, true, ℤ, pos, negsuc, sym, ap, ◌∙◌, arith, w16, w32, SFits, to_z, of_z}
+use lib.Signed.{le_z, le_z_yes}
 use Rattle.std.proofs.lemmas.Int.{to_z-of_z, ints}
 use Rattle.std.proofs.lemmas.Bool.{and_parts}
 use Rattle.space.specs.At.{in_range}

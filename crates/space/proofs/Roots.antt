@@ -1,5 +1,5 @@
 -- What the definition of `root` comes to: the one number r with r² ≤ n < (r + 1)². Assumes nothing.
-use Rattle.std.proofs.Common.{◌≡◌, ℕ, zero, suc, ◌+◌, ◌*◌, ◌<◌, ◌≤◌, Bool, true, false, cond, leb, sym, refl, ⊎_elim, suc-mul, mul-le-mul, le_antisymm, mul-suc, arith}
+use Rattle.std.proofs.Common.{◌≡◌, ℕ, zero, suc, ◌*◌, ◌<◌, ◌≤◌, Bool, true, false, cond, leb, refl, ⊎_elim, suc-mul, mul-le-mul, mul-suc, arith}
 use Rattle.std.proofs.lemmas.Bool.{leb-true, leb-false, cases_lt}
 use Rattle.space.specs.Root.{root}
 

@@ -1,5 +1,5 @@
 -- What a `Point` stands for, and what comes of three numbers. Assumes nothing.
-use Rattle.std.specs.Prelude.{ℕ, suc, ◌+◌, Bool, true, false, cond, ◌&&◌, List, [], ◌∷◌, ℤ, pos, negsuc, Some, None, Ok, Err, Option, Result, int_le}
+use Rattle.std.specs.Prelude.{ℕ, suc, Bool, cond, ◌&&◌, List, [], ◌∷◌, ℤ, pos, negsuc, Some, None, Ok, Err, Option, Result, int_le}
 use Rattle.space.specs.Pt.{Pt}
 use Rattle.space.specs.declared.point.Point.{Point}
 use Rattle.space.specs.declared.refusal.Refusal.{Refusal}

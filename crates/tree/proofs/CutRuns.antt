@@ -1,5 +1,5 @@
 -- A list cut down with a stack of trees: a tree's list leaves the pruned tree on top. Assumes nothing.
-use Rattle.std.proofs.Common.{◌≡◌, ℕ, ◌+◌, ◌*◌, ◌≤◌, Bool, true, false, cond, not, ltb, List, [], ◌∷◌, ◌++◌, map, ℤ, nat_abs, sym, refl, ap, ◌∙◌, subst, ap₂, append_assoc, append-nil, arith}
+use Rattle.std.proofs.Common.{◌≡◌, ℕ, ◌+◌, ◌*◌, ◌≤◌, Bool, true, false, cond, ltb, List, [], ◌∷◌, ◌++◌, map, ℤ, nat_abs, sym, refl, ap, ◌∙◌, append_assoc, append-nil, arith}
 use lib.Signed.{lt_z}
 use Rattle.space.specs.Pt.{Pt, InSpace}
 use Rattle.tree.specs.CutStep.{pruned_operator, cut_step}
@@ -7,8 +7,7 @@ use Rattle.tree.specs.Parts.{Parts, Lawful}
 use Rattle.tree.specs.Prune.{turned_by, kept, pruned_join, prune}
 use Rattle.tree.specs.Spell.{Symbol, solid, operator, spell}
 use Rattle.tree.specs.Stepped.{run_by}
-use Rattle.tree.specs.Tree.{Op, union, common, cut, joined, gap, handed, Tree, leaf, join, turn, value}
-use Rattle.tree.specs.Whole.{flipped}
+use Rattle.tree.specs.Tree.{Op, union, common, cut, joined, gap, Tree, leaf, join, turn, value}
 use Rattle.tree.proofs.Pruning.{turned_by_value}
 use Rattle.tree.proofs.Sizes.{Small, small_up, handed_size, joined_small, fillet_small}
 use Rattle.tree.proofs.Wholes.{turn_value}

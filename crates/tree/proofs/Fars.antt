@@ -1,11 +1,9 @@
 -- The constant of a far cell. Assumes nothing.
-use Rattle.std.proofs.Common.{◌≡◌, ℕ, zero, suc, ◌+◌, ◌-◌, ◌*◌, ◌<◌, ◌≤◌, ℤ, pos, negsuc, ◌-ℤ◌, neg_ℤ, nat_abs, sym, refl, ap, ◌∙◌, mul-le-mul_right, arith}
+use Rattle.std.proofs.Common.{ℕ, zero, suc, ◌-◌, ◌*◌, ◌<◌, ◌≤◌, ℤ, pos, negsuc, ◌-ℤ◌, neg_ℤ, nat_abs, refl, mul-le-mul_right, arith}
 use Rattle.space.specs.Bound.{Bound}
-use Rattle.space.specs.Pt.{Pt, InSpace, apart²}
 use Rattle.std.proofs.lemmas.Int.{ints}
 use Rattle.tree.specs.Far.{far_constant, FarLaw}
-use Rattle.tree.specs.Parts.{Parts, Lawful}
-use Rattle.tree.specs.Tree.{Tree, value}
+use Rattle.tree.specs.Tree.{value}
 use Rattle.tree.proofs.Values.{value_law}
 
 -- twice R is not above C times R

@@ -1,8 +1,8 @@
 -- Tables of lawful solids and joints give lawful parts. Assumes nothing.
-use Rattle.std.proofs.Common.{◌≡◌, ℕ, zero, suc, ◌*◌, ◌≤◌, List, [], ◌∷◌, map, get_or, ℤ, pos, nat_abs, refl, arith}
+use Rattle.std.proofs.Common.{ℕ, zero, suc, List, [], ◌∷◌, ℤ, refl, arith}
 use Rattle.space.specs.Laws.{DistanceLaw, DistanceRange, FilletLaw}
 use Rattle.space.specs.Pt.{Pt}
-use Rattle.tree.specs.Parts.{Parts, Lawful, parts, solid_distance, joint_radius, joint_fillet}
+use Rattle.tree.specs.Parts.{Lawful, parts, solid_distance, joint_radius, joint_fillet}
 
 module _ {S J : Type 0} (dist : S → Pt → ℤ) (radius : J → ℕ) (fillet : J → ℕ → ℕ) where
   near_all : ((s : S) → DistanceLaw (dist s)) → (solids : List S) (n : ℕ) → DistanceLaw (solid_distance dist solids n)

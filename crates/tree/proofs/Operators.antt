@@ -1,9 +1,9 @@
 -- Operators are monotone and shift with their operands. Assumes nothing.
-use Rattle.std.proofs.Common.{◌≡◌, ℕ, zero, suc, ◌+◌, ◌-◌, ◌≤◌, ℤ, pos, negsuc, ◌+ℤ◌, ◌-ℤ◌, neg_ℤ, nat_abs, ◌≤ℤ◌, ◌<ℤ◌, sym, refl, ap, ◌∙◌, ap₂, subst₂, ⊎_elim, add-zero, add-suc, arith}
+use Rattle.std.proofs.Common.{◌≡◌, ℕ, zero, suc, ◌+◌, ◌-◌, ◌≤◌, ℤ, pos, ◌+ℤ◌, ◌-ℤ◌, neg_ℤ, ◌≤ℤ◌, sym, ap, ◌∙◌, ap₂, subst₂, add-zero, add-suc, arith}
 use Rattle.space.specs.Laws.{FilletLaw}
 use Rattle.std.proofs.lemmas.Int.{ints, clamps, by_lt_z}
 use Rattle.std.specs.Int.{int_max, int_min}
-use Rattle.tree.specs.Tree.{Op, union, common, cut, joined, gap}
+use Rattle.tree.specs.Tree.{union, common, joined, gap}
 
 -- from one gap to a wider one the fillet does not rise, and falls by no more than the gaps differ
 pub fillet_falls : {k : ℕ} {f : ℕ → ℕ} → FilletLaw k f → (m d : ℕ) → (f (m + d) ≤ f m) × (f m ≤ f (m + d) + d)

@@ -1,7 +1,7 @@
 -- A pruned tree says what the tree says. Assumes nothing.
-use Rattle.std.proofs.Common.{◌≡◌, ℕ, ◌+◌, ◌*◌, ◌<◌, ◌≤◌, Bool, true, false, cond, ltb, ℤ, pos, ◌+ℤ◌, ◌-ℤ◌, neg_ℤ, nat_abs, ◌≤ℤ◌, ◌<ℤ◌, sym, refl, ap, ◌∙◌, subst, ap₂, arith}
+use Rattle.std.proofs.Common.{◌≡◌, ℕ, ◌+◌, ◌*◌, ◌<◌, ◌≤◌, Bool, true, false, cond, ltb, ℤ, pos, ◌+ℤ◌, ◌-ℤ◌, neg_ℤ, nat_abs, ◌≤ℤ◌, ◌<ℤ◌, refl, ap, ◌∙◌, ap₂, arith}
 use lib.Signed.{lt_z, lt_z_yes, lt_z_no}
-use Rattle.space.specs.Laws.{DistanceLaw, FilletLaw}
+use Rattle.space.specs.Laws.{FilletLaw}
 use Rattle.space.specs.Pt.{Pt, InSpace, apart²}
 use Rattle.std.proofs.lemmas.Int.{ints, clamps}
 use Rattle.std.proofs.lemmas.Bool.{ltb-true}
@@ -10,7 +10,7 @@ use Rattle.tree.specs.Parts.{Parts, Lawful}
 use Rattle.tree.specs.Prune.{turned_by, kept, pruned_join, prune, PruneLaw}
 use Rattle.tree.specs.Tree.{Op, union, common, cut, joined, gap, handed, Tree, leaf, join, turn, value}
 use Rattle.tree.proofs.Values.{value_law}
-use Rattle.tree.proofs.Wholes.{turn_value, whole_value}
+use Rattle.tree.proofs.Wholes.{turn_value}
 
 pub turned_by_value : (P : Parts) (turned : Bool) (t : Tree) (p : Pt) → value P (turned_by turned t) p ≡ handed turned (value P t p)
 turned_by_value P true t p = turn_value P t p

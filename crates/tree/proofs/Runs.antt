@@ -1,10 +1,10 @@
 -- A list worked out with a stack of values: a tree's list leaves the tree's value on top. Assumes nothing.
-use Rattle.std.proofs.Common.{◌≡◌, ℕ, List, [], ◌∷◌, ◌++◌, ℤ, sym, refl, ap, ◌∙◌, append_assoc, append-nil}
+use Rattle.std.proofs.Common.{◌≡◌, List, [], ◌∷◌, ◌++◌, ℤ, sym, refl, ap, ◌∙◌, append_assoc, append-nil}
 use Rattle.space.specs.Pt.{Pt}
 use Rattle.tree.specs.Parts.{Parts}
-use Rattle.tree.specs.Spell.{Symbol, solid, operator, spell}
+use Rattle.tree.specs.Spell.{Symbol, operator, spell}
 use Rattle.tree.specs.Stepped.{stepped, run_by}
-use Rattle.tree.specs.Tree.{Tree, leaf, join, value, handed, joined}
+use Rattle.tree.specs.Tree.{Tree, leaf, join, value}
 
 -- the values that wait after a list
 abbrev pub run : Parts → Pt → List Symbol → List ℤ → List ℤ

@@ -1,5 +1,5 @@
 -- How large the values that wait can get: 32,767 at first, and at most 1,024 more with each symbol. Assumes nothing.
-use Rattle.std.proofs.Common.{◌≡◌, ℕ, suc, ◌+◌, ◌*◌, ◌≤◌, Bool, true, false, List, [], ◌∷◌, ℤ, pos, negsuc, ◌+ℤ◌, ◌-ℤ◌, neg_ℤ, nat_abs, refl, arith}
+use Rattle.std.proofs.Common.{◌≡◌, ℕ, ◌+◌, ◌≤◌, Bool, true, false, List, [], ◌∷◌, ℤ, pos, ◌+ℤ◌, ◌-ℤ◌, neg_ℤ, nat_abs, refl, arith}
 use Rattle.space.specs.Laws.{FilletLaw}
 use Rattle.space.specs.Pt.{Pt, InSpace}
 use Rattle.std.proofs.lemmas.Int.{ints, clamps}
@@ -8,7 +8,7 @@ use Rattle.std.specs.List.{AllByRecursion}
 use Rattle.tree.specs.Parts.{Parts, Lawful}
 use Rattle.tree.specs.Spell.{Symbol, solid, operator}
 use Rattle.tree.specs.Stepped.{stepped}
-use Rattle.tree.specs.Tree.{Op, union, common, cut, gap, handed, joined}
+use Rattle.tree.specs.Tree.{Op, union, common, cut, handed, joined}
 
 pub handed_size : (turned : Bool) (v : ℤ) → nat_abs (handed turned v) ≡ nat_abs v
 handed_size true v = omega (arith, ints)

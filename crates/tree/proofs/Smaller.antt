@@ -1,5 +1,5 @@
 -- A pruned tree is not larger. Assumes nothing.
-use Rattle.std.proofs.Common.{◌≡◌, ℕ, suc, ◌+◌, ◌*◌, ◌≤◌, max, Bool, true, false, cond, not, ltb, length, ℤ, refl, arith}
+use Rattle.std.proofs.Common.{◌≡◌, ℕ, suc, ◌+◌, ◌*◌, ◌≤◌, max, Bool, true, false, cond, ltb, length, ℤ, refl, arith}
 use lib.Signed.{lt_z}
 use Rattle.space.specs.Pt.{Pt}
 use Rattle.tree.specs.Order.{depth}

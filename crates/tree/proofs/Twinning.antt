@@ -1,5 +1,5 @@
 -- Twins agree. Assumes nothing.
-use Rattle.std.proofs.Common.{◌≡◌, ℕ, suc, ◌+◌, ◌*◌, ◌<◌, ◌≤◌, Bool, true, false, cond, not, ltb, List, [], ◌∷◌, ◌++◌, length, ℤ, pos, ◌+ℤ◌, ◌-ℤ◌, neg_ℤ, nat_abs, ◌≤ℤ◌, ◌<ℤ◌, sym, refl, ap, ◌∙◌, subst, ap₂, subst₂, arith, length-append}
+use Rattle.std.proofs.Common.{◌≡◌, ℕ, ◌+◌, ◌*◌, ◌<◌, Bool, true, false, cond, not, ltb, [], ◌∷◌, ◌++◌, length, ℤ, pos, ◌+ℤ◌, ◌-ℤ◌, neg_ℤ, ◌≤ℤ◌, ◌<ℤ◌, sym, refl, ap, ◌∙◌, subst, ap₂, subst₂, arith, length-append}
 use lib.IntN.{neg_ℤ-neg_ℤ}
 use lib.Signed.{lt_z, lt_z_yes, lt_z_no}
 use Rattle.space.specs.Pt.{Pt}
@@ -8,7 +8,7 @@ use Rattle.std.proofs.lemmas.Bool.{ltb-true, ltb-false}
 use Rattle.std.specs.Int.{int_max, int_min}
 use Rattle.tree.specs.Parts.{Parts}
 use Rattle.tree.specs.Prune.{turned_by, kept, pruned_join, prune}
-use Rattle.tree.specs.Spell.{Symbol, operator, spell}
+use Rattle.tree.specs.Spell.{operator, spell}
 use Rattle.tree.specs.Tree.{Op, union, common, cut, joined, gap, handed, Tree, leaf, join, turn, value}
 use Rattle.tree.specs.Twins.{Twin, inside_out, uncut, union_swap, common_swap, in_first, in_second, same, back, after, TwinLaw, TwinsPruned}
 use Rattle.tree.proofs.Wholes.{turn_value}

@@ -1,10 +1,8 @@
 -- Every tree's value obeys the distance law. Assumes nothing.
-use Rattle.std.proofs.Common.{◌≡◌, ℕ, ◌*◌, ◌≤◌, Bool, true, false, ℤ, pos, ◌+ℤ◌, ◌-ℤ◌, neg_ℤ, nat_abs, ◌≤ℤ◌, sym, refl, ap, ◌∙◌, subst, subst₂, arith}
-use Rattle.space.specs.Laws.{DistanceLaw, FilletLaw}
-use Rattle.space.specs.Pt.{Pt, InSpace, apart²}
+use Rattle.std.proofs.Common.{ℕ, ◌≤◌, Bool, true, false, ℤ, pos, ◌+ℤ◌, ◌-ℤ◌, neg_ℤ, nat_abs, ◌≤ℤ◌, refl, subst, arith}
+use Rattle.space.specs.Laws.{FilletLaw}
 use Rattle.std.proofs.lemmas.Int.{ints}
-use Rattle.tree.specs.Parts.{Parts, Lawful}
-use Rattle.tree.specs.Tree.{Op, union, common, cut, joined, handed, Tree, leaf, join, value}
+use Rattle.tree.specs.Tree.{Op, union, common, cut, joined, handed, leaf, join, value}
 use Rattle.tree.specs.ValueLaw.{OperatorLaw, OperatorsLaw, ValueLaw}
 use Rattle.tree.proofs.Operators.{union_rises, union_shifts, common_rises, common_shifts}
 

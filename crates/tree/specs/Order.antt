@@ -1,5 +1,5 @@
 -- When a list is a tree in post-order for which at most 64 values wait. Assumes nothing.
-use Rattle.std.specs.Prelude.{◌≡◌, ℕ, zero, suc, pred, ◌≤◌, max, Bool, cond, not, List, [], ◌∷◌, is_some, Some, None, Option, ◌==◌, nat_lt}
+use Rattle.std.specs.Prelude.{◌≡◌, ℕ, suc, pred, ◌≤◌, max, Bool, cond, not, List, [], ◌∷◌, is_some, Some, None, Option, ◌==◌, nat_lt}
 use Rattle.tree.specs.Spell.{Symbol, solid, operator, spell}
 use Rattle.tree.specs.Tree.{Tree, leaf, join}
 

@@ -1,5 +1,5 @@
 -- A list worked out symbol by symbol, over what waits, the last on top. Assumes nothing.
-use Rattle.std.specs.Prelude.{ℕ, List, [], ◌∷◌, ℤ, pos}
+use Rattle.std.specs.Prelude.{List, [], ◌∷◌, ℤ, pos}
 use Rattle.space.specs.Pt.{Pt}
 use Rattle.tree.specs.Parts.{Parts}
 use Rattle.tree.specs.Spell.{Symbol, solid, operator}

@@ -1,10 +1,10 @@
 -- Twins: trees that come from each other by exchanges. Assumes nothing.
-use Rattle.std.specs.Prelude.{◌≡◌, ℕ, Bool, not, List, length}
+use Rattle.std.specs.Prelude.{◌≡◌, ℕ, Bool, not, length}
 use Rattle.space.specs.Pt.{Pt}
 use Rattle.tree.specs.Parts.{Parts}
 use Rattle.tree.specs.Prune.{prune}
-use Rattle.tree.specs.Spell.{Symbol, spell}
-use Rattle.tree.specs.Tree.{Op, union, common, cut, Tree, leaf, join, turn, value}
+use Rattle.tree.specs.Spell.{spell}
+use Rattle.tree.specs.Tree.{Op, union, common, cut, Tree, join, turn, value}
 
 -- The three exchanges at any operator, in any number, either way.
 pub data Twin : Tree → Tree → Type 0 where

@@ -1,5 +1,5 @@
 -- What every operator and every tree keeps. Assumes nothing.
-use Rattle.std.specs.Prelude.{◌≡◌, ℕ, ◌≤◌, ℤ, pos, ◌+ℤ◌, neg_ℤ, ◌≤ℤ◌}
+use Rattle.std.specs.Prelude.{◌≡◌, ℕ, ℤ, ◌+ℤ◌, neg_ℤ, ◌≤ℤ◌}
 use Rattle.space.specs.Laws.{DistanceLaw, FilletLaw}
 use Rattle.tree.specs.Parts.{Parts, Lawful}
 use Rattle.tree.specs.Tree.{Op, union, common, cut, joined, Tree, value}

@@ -1,5 +1,5 @@
 -- The whole tree: every cut made a common by turning its second operand over. Assumes nothing.
-use Rattle.std.specs.Prelude.{◌≡◌, ℕ, Bool, true, false, not, List, [], ◌∷◌}
+use Rattle.std.specs.Prelude.{◌≡◌, Bool, true, false, not, List, [], ◌∷◌}
 use Rattle.space.specs.Pt.{Pt}
 use Rattle.tree.specs.Parts.{Parts}
 use Rattle.tree.specs.Spell.{Symbol, solid, operator, spell}

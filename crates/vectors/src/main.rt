@@ -20,6 +20,13 @@ mod lines;
 mod marches;
 mod paths;
 
+// how many scenes of each kind there are
+const SCENES: u32 = 48;
+
+const PATHS: u32 = 22;
+
+const MARCHES: u32 = 13;
+
 // Reads the file of a case and asks of it what the case does; a refusal is its only answer.
 fn replay<M: Make>(
     rt: &HostRuntime,
@@ -104,13 +111,13 @@ fn damaged(rt: &HostRuntime) -> anyhow::Result<Tally> {
 }
 
 fn run(rt: &HostRuntime) -> anyhow::Result<()> {
-    let Tally { all, some, differ } = scenes(rt, "scene", Ask::Lines, 48)?;
+    let Tally { all, some, differ } = scenes(rt, "scene", Ask::Lines, SCENES)?;
     println!(rt; "scenes: {all} lines answered, {some} files written back, {differ} differ")?;
     let Tally { all, some, differ } = damaged(rt)?;
     println!(rt; "damaged files: {all} refused, {some} accepted, {differ} differ")?;
-    let Tally { all, some, differ } = scenes(rt, "path", Ask::Paths, 22)?;
+    let Tally { all, some, differ } = scenes(rt, "path", Ask::Paths, PATHS)?;
     println!(rt; "paths: {all} followed, {some} of them to far cells, {differ} differ")?;
-    let Tally { all, some, differ } = scenes(rt, "march", Ask::Marches, 13)?;
+    let Tally { all, some, differ } = scenes(rt, "march", Ask::Marches, MARCHES)?;
     println!(rt; "marches: {all} made, {some} of them met, {differ} differ")?;
     Ok(())
 }

@@ -1,4 +1,4 @@
-use Rattle.std.proofs.Common.{suc, ◌*◌, ◌<◌, ◌≤◌, add-one, arith}
+use Rattle.std.proofs.Common.{add-one}
 use Rattle.space.proofs.Roots.{root_unique}
 use Rattle.space.proofs.root.floor_root.Goals as goal
 
