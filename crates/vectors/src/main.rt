@@ -6,7 +6,7 @@
 use crate::case::{Ask, Case, Tally};
 use crate::lines::{answer_lines, compare, write_back};
 use crate::marches::make_marches;
-use crate::paths::follow_paths;
+use crate::path_cases::follow_paths;
 use anyhow::anyhow;
 use clearance::answer::Answer;
 use records::make::{CatalogueMake, Make, ProbedMake};
@@ -18,7 +18,7 @@ use std::fs;
 mod case;
 mod lines;
 mod marches;
-mod paths;
+mod path_cases;
 
 // how many scenes of each kind there are
 const SCENES: u32 = 48;
