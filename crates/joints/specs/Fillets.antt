@@ -4,7 +4,7 @@ use Rattle.std.proofs.Common.{suc-mul, mul-suc, mul_assoc, mul-add, mul-le-mul, 
 use Rattle.space.specs.Laws.{FilletLaw}
 use Rattle.joints.specs.House.{rounded_fillet}
 use Rattle.joints.specs.Soft.{soft_fillet}
-use Rattle.joints.specs.Quotients.{quotient-law}
+use Rattle.joints.specs.Quotients.{quotient_law}
 
 pub sharp_law : FilletLaw 0 (λ gap. 0)
 sharp_law = record {
@@ -24,7 +24,7 @@ rounded_law k positive limited =
     let half : (m : ℕ) → m ≤ k → 2 * p m ≤ 4 * k * k = λ m h. omega (arith, mul-le-mul h h, mul_assoc 4 k k) in
     let rises : (m : ℕ) → p m ≤ p (suc m) = λ m. omega (arith, square_suc m) in
     let slowly : (m : ℕ) → suc m ≤ k → p (suc m) ≤ p m + 4 * k = λ m h. omega (arith, square_suc m) in
-    quotient-law k (4 * k) p (omega arith) limited refl half rises slowly
+    quotient_law k (4 * k) p (omega arith) limited refl half rises slowly
 
 cube_suc : (m : ℕ) → suc m * suc m * suc m ≡ m * m * m + m * m + suc m * m + suc m * suc m
 cube_suc m =
@@ -42,4 +42,4 @@ soft_law k positive limited =
     let half : (m : ℕ) → m ≤ k → 2 * p m ≤ 6 * k * k * k = λ m h. omega (arith, mul-le-mul (mul-le-mul h h) h, mul_assoc 6 (k * k) k) in
     let rises : (m : ℕ) → p m ≤ p (suc m) = λ m. omega (arith, cube_suc m) in
     let slowly : (m : ℕ) → suc m ≤ k → p (suc m) ≤ p m + 6 * k * k = λ m h. omega (arith, cube_suc m, square_suc m, suc-mul m m, mul-le-mul h h, mul_assoc 6 k k) in
-    quotient-law k (6 * k * k) p (soft_divisor k positive) limited refl half rises slowly
+    quotient_law k (6 * k * k) p (soft_divisor k positive) limited refl half rises slowly

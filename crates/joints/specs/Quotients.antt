@@ -33,7 +33,7 @@ step k gap P past below =
     (cases_lt gap k)
 
 -- the fillet law of p (k - gap) / q
-pub quotient-law
+pub quotient_law
     : (k q : ℕ) (p : ℕ → ℕ)
     → 0 < q
     → k ≤ 2048
@@ -42,7 +42,7 @@ pub quotient-law
     → ((m : ℕ) → p m ≤ p (suc m))
     → ((m : ℕ) → suc m ≤ k → p (suc m) ≤ p m + q)
     → FilletLaw k (λ gap. p (k - gap) / q)
-quotient-law k q p pos limited none half rises slowly = record {
+quotient_law k q p pos limited none half rises slowly = record {
   limited = limited;
   ends = λ gap h. ap (λ m. p m / q) (sub-eq-zero_of_le h) ∙ ap (λ a. a / q) none ∙ zero-div q;
   half = λ gap. div_half k q (p (k - gap)) pos (half (k - gap) (omega arith));
