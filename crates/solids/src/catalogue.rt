@@ -46,7 +46,7 @@ pub struct Plane {
     ghost offset_in: { unsigned_abs offset ≤ 16384 * length },
 }
 
-#[derive(Clone, Copy)]
+#[derive(Clone, Copy, PartialEq, Eq, Debug)]
 pub enum Axis {
     X,
     Y,

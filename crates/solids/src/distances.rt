@@ -5,27 +5,37 @@ ghost use Rattle.space.specs.Pt.{apart²};
 ghost use Rattle.space.specs.Root.{root};
 ghost use Rattle.solids.specs.Ball.{ball_distance};
 ghost use Rattle.solids.specs.Block.{block_distance, box_distance, excess, positive_square};
+ghost use Rattle.solids.specs.KindLaws.{ball_near, ball_ranged, block_near, block_ranged, plane_near, plane_ranged, drum_near, drum_ranged, probed_near, probed_ranged};
 ghost use Rattle.solids.specs.Drum.{drum_distance, along, across²};
 ghost use Rattle.solids.specs.Plane.{plane_distance, along_normal};
 ghost use Rattle.solids.specs.Probed.{probed_distance};
 
 use crate::catalogue::{Axis, Ball, Block, Drum, Plane};
 use crate::probed::Probed;
+use crate::solid::Solid;
 use space::point::Point;
 use space::root::floor_root;
 
-impl Ball {
-    pub(crate) fn distance(&self, p: Point) -> i32
-        ensures { result ≡ ball_distance self.now (at p) }
-    {
+impl Solid for Ball {
+    ghost dist = { ball_distance };
+
+    ghost near = { ball_near };
+
+    ghost ranged = { ball_ranged };
+
+    fn distance(&self, p: Point) -> i32 {
         root_of(squared_distance(p, self.centre)) - self.radius as i32
     }
 }
 
-impl Block {
-    pub(crate) fn distance(&self, p: Point) -> i32
-        ensures { result ≡ block_distance self.now (at p) }
-    {
+impl Solid for Block {
+    ghost dist = { block_distance };
+
+    ghost near = { block_near };
+
+    ghost ranged = { block_ranged };
+
+    fn distance(&self, p: Point) -> i32 {
         let x = excess(p.x, self.centre.x, self.half_x);
         let y = excess(p.y, self.centre.y, self.half_y);
         let z = excess(p.z, self.centre.z, self.half_z);
@@ -33,13 +43,19 @@ impl Block {
     }
 }
 
-impl Plane {
-    pub(crate) fn distance(&self, p: Point) -> i32
-        ensures { result ≡ plane_distance self.now (at p) }
-    {
+impl Solid for Plane {
+    ghost dist = { plane_distance };
+
+    ghost near = { plane_near };
+
+    ghost ranged = { plane_ranged };
+
+    fn distance(&self, p: Point) -> i32 {
         (self.along_normal(p) - self.offset).div_euclid(self.length as i32)
     }
+}
 
+impl Plane {
     // The product of the normal and a point.
     fn along_normal(&self, p: Point) -> i32
         ensures value { result ≡ along_normal self.now (at p) }
@@ -49,23 +65,31 @@ impl Plane {
     }
 }
 
-impl Drum {
-    pub(crate) fn distance(&self, p: Point) -> i32
-        ensures { result ≡ drum_distance self.now (at p) }
-    {
+impl Solid for Drum {
+    ghost dist = { drum_distance };
+
+    ghost near = { drum_near };
+
+    ghost ranged = { drum_ranged };
+
+    fn distance(&self, p: Point) -> i32 {
         let side = root_of(squared_across(self.axis, p, self.centre)) - self.radius as i32;
         let end = along(self.axis, p, self.centre) as i32 - self.half_height as i32;
         side.max(end)
     }
 }
 
-impl Probed {
-    pub(crate) fn distance(&self, p: Point) -> i32
-        ensures { result ≡ probed_distance self.now (at p) }
-    {
+impl Solid for Probed {
+    ghost dist = { probed_distance };
+
+    ghost near = { probed_near };
+
+    ghost ranged = { probed_ranged };
+
+    fn distance(&self, p: Point) -> i32 {
         let mut near = squared_distance(p, self.centres[0]);
-        for i in 1..self.count as usize {
-            near = near.min(squared_distance(p, self.centres[i]));
+        for centre in &self.centres[1..self.count as usize] {
+            near = near.min(squared_distance(p, *centre));
         }
         root_of(near) - self.radius as i32
     }
@@ -103,7 +127,9 @@ fn excess(a: i16, centre: i16, half: u16) -> i32
 
 // A block's distance, by its excess along each axis.
 fn box_distance(x: i32, y: i32, z: i32) -> i32
-    requires { (unsigned_abs x ≤ 16383) × ((unsigned_abs y ≤ 16383) × (unsigned_abs z ≤ 16383)) }
+    requires x_small { unsigned_abs x ≤ 16383 }
+    requires y_small { unsigned_abs y ≤ 16383 }
+    requires z_small { unsigned_abs z ≤ 16383 }
     ensures value { result ≡ box_distance x y z }
     ensures bound { unsigned_abs result ≤ 65535 }
 {
@@ -126,7 +152,8 @@ fn positive_square(e: i32) -> u32
 
 // Of a normal's part and a coordinate.
 fn product(n: i16, a: i16) -> i32
-    requires { (unsigned_abs n ≤ 4096) × (unsigned_abs a ≤ 8192) }
+    requires n_small { unsigned_abs n ≤ 4096 }
+    requires a_small { unsigned_abs a ≤ 8192 }
     ensures value { result ≡ n *ℤ a }
     ensures bound { unsigned_abs result ≤ 33554432 }
 {

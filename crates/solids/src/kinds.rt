@@ -1,10 +1,8 @@
-// The solids in use: those of the catalogue and the probed ones.
+// The solids of the catalogue as one kind.
 ghost use Rattle.solids.specs.Catalogue.{catalogue_distance};
-ghost use Rattle.solids.specs.KindLaws.{catalogue_near, catalogue_ranged, probed_near, probed_ranged};
-ghost use Rattle.solids.specs.Probed.{probed_distance};
+ghost use Rattle.solids.specs.KindLaws.{catalogue_near, catalogue_ranged};
 
 use crate::catalogue::CatalogueSolid;
-use crate::probed::Probed;
 use crate::solid::Solid;
 use space::point::Point;
 
@@ -22,17 +20,5 @@ impl Solid for CatalogueSolid {
             CatalogueSolid::Plane(s) => s.distance(p),
             CatalogueSolid::Drum(s) => s.distance(p),
         }
-    }
-}
-
-impl Solid for Probed {
-    ghost dist = { probed_distance };
-
-    ghost near = { probed_near };
-
-    ghost ranged = { probed_ranged };
-
-    fn distance(&self, p: Point) -> i32 {
-        self.distance(p)
     }
 }

@@ -4,7 +4,7 @@ use crate::probed::Probed;
 use crate::solid::Solid;
 use space::point::Point;
 
-const ORIGIN: Point = Point { x: 0, y: 0, z: 0 };
+const ORIGIN: Point = Point::ORIGIN;
 
 #[test]
 fn ball(rt: HostRuntime) {
@@ -65,6 +65,6 @@ fn probed(rt: HostRuntime) {
         count: 2,
         radius: 2,
     };
-    assert!(rt; <Probed as Solid>::distance(&s, Point { x: 0, y: 13, z: 4 }) == 3);
-    assert!(rt; <Probed as Solid>::distance(&s, Point { x: 0, y: 0, z: 1 }) == 8);
+    assert!(rt; s.distance(Point { x: 0, y: 13, z: 4 }) == 3);
+    assert!(rt; s.distance(Point { x: 0, y: 0, z: 1 }) == 8);
 }

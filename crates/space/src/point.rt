@@ -3,7 +3,7 @@ ghost use Rattle.space.specs.Pt.{InRange};
 
 // Three whole coordinates from -8,192 to 8,191. The ghost fields are owed wherever a `Point` is
 // made or changed, so no value outside the range can be one.
-#[derive(Clone, Copy)]
+#[derive(Clone, Copy, PartialEq, Eq, Debug)]
 pub struct Point {
     pub x: i16,
     pub y: i16,

@@ -6,6 +6,8 @@ use crate::point::Point;
 use crate::refusal::Refusal;
 
 impl Point {
+    pub const ORIGIN: Point = Point { x: 0, y: 0, z: 0 };
+
     // The point with these coordinates, or refusal 12 with the place, from 1, of the first that is outside.
     pub fn new(x: i32, y: i32, z: i32) -> Result<Point, Refusal>
         ensures { seen result ≡ pt_outcome x y z }

@@ -7,7 +7,7 @@ returns-then-greatest-le0 c =
     let t = c.max-greatest.result in
     record {
       value = inside c.args.x c.args.y c.args.z a t c.ranges.x c.ranges.y c.ranges.z (record { sfits = c.max.type_inv }) c.max.ensures.value c.max-greatest.ensures.value (record { sfits = c.max-greatest.type_inv }) c.if-greatest-le0.true;
-      bound = inside_small c.args.x c.args.y c.args.z a t c.ranges.x c.ranges.y c.ranges.z (record { sfits = c.max.type_inv }) c.max.ensures.value c.max-greatest.ensures.value c.requires.0 c.requires.1.0 c.requires.1.1;
+      bound = inside_small c.args.x c.args.y c.args.z a t c.ranges.x c.ranges.y c.ranges.z (record { sfits = c.max.type_inv }) c.max.ensures.value c.max-greatest.ensures.value c.requires.x_small c.requires.y_small c.requires.z_small;
     }
 
 pub returns-else-greatest-le0 : goal.returns-else-greatest-le0

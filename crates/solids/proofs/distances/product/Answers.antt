@@ -4,5 +4,5 @@ use Rattle.solids.proofs.distances.product.Goals as goal
 
 pub returns : goal.returns
 returns c =
-    let e = wide_product c.args.n c.args.a c.ranges.n c.ranges.a c.requires.0 c.requires.1 in
-    record { value = e; bound = rw e (product_small c.args.n c.args.a c.requires.0 c.requires.1) }
+    let e = wide_product c.args.n c.args.a c.ranges.n c.ranges.a c.requires.n_small c.requires.a_small in
+    record { value = e; bound = rw e (product_small c.args.n c.args.a c.requires.n_small c.requires.a_small) }

@@ -6,13 +6,13 @@ pub product-requires-2 : goal.product-requires-2
 product-requires-2 c =
     let s = c.args.self.now in
     let p = c.args.p in
-    (normal_small s.normal_y s.normal_y_in, coordinate_small p.y p.y_in)
+    record { n_small = normal_small s.normal_y s.normal_y_in; a_small = coordinate_small p.y p.y_in }
 
 pub product-requires-3 : goal.product-requires-3
 product-requires-3 c =
     let s = c.args.self.now in
     let p = c.args.p in
-    (normal_small s.normal_z s.normal_z_in, coordinate_small p.z p.z_in)
+    record { n_small = normal_small s.normal_z s.normal_z_in; a_small = coordinate_small p.z p.z_in }
 
 pub overflow_add-result : goal.overflow_add-result
 overflow_add-result c =

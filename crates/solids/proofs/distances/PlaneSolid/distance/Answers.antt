@@ -4,7 +4,7 @@ use Rattle.space.specs.At.{at}
 use Rattle.solids.specs.Plane.{along_normal, plane_distance}
 use Rattle.solids.specs.Bounds.{length_short}
 use Rattle.solids.proofs.Casts.{numerator_fits, divided}
-use Rattle.solids.proofs.catalogue.Plane.distance.Goals as goal
+use Rattle.solids.proofs.distances.PlaneSolid.distance.Goals as goal
 
 pub overflow_sub-along_normal : goal.overflow_sub-along_normal
 overflow_sub-along_normal c =

@@ -4,7 +4,7 @@ use Rattle.std.proofs.lemmas.Int.{to_z-of_z}
 use Rattle.space.specs.Root.{root}
 use Rattle.solids.specs.Drum.{drum_distance}
 use Rattle.solids.proofs.Casts.{less, less_flat}
-use Rattle.solids.proofs.catalogue.Drum.distance.Goals as goal
+use Rattle.solids.proofs.distances.DrumSolid.distance.Goals as goal
 
 pub returns : goal.returns
 unfolding drum_distance
