@@ -1,8 +1,8 @@
 -- How the cut-down trees that wait lie in a free part: one after another, from its start. Assumes nothing.
-use Rattle.std.specs.Prelude.{◌≡◌, ℕ, ◌<◌, List, [], ◌∷◌, map, length, take, ℤ}
+use Rattle.std.specs.Prelude.{◌≡◌, ℕ, ◌<◌, List, [], ◌∷◌, map, length, take}
 use Rattle.scene.specs.declared.block.Block.{Block}
 use Rattle.space.specs.Pt.{Pt}
-use Rattle.tree.specs.Parts.{Parts, joint_radius, joint_fillet}
+use Rattle.tree.specs.Parts.{Parts}
 use Rattle.tree.specs.Rows.{entry_symbol}
 use Rattle.tree.specs.Spell.{spell_all}
 use Rattle.tree.specs.Tree.{Tree, value}
@@ -23,7 +23,3 @@ pub record Laid (P : Parts) (centre : Pt) (trees : List Tree) (free : List Entry
 abbrev pub Stacked : List Block → ℕ → Type 0
 Stacked [] n = Unit {0}
 Stacked (b ∷ waiting) n = (b.start < n) × Stacked waiting b.start
-
--- parts with these joints, and any solids
-abbrev pub with_joints : {J : Type 0} → (J → ℕ) → (J → ℕ → ℕ) → List J → (ℕ → Pt → ℤ) → Parts
-with_joints radius fillet joints distance = record { distance = distance; radius = joint_radius radius joints; fillet = joint_fillet fillet joints }

@@ -2,5 +2,4 @@ pub mod Keeping
 pub mod Laid
 pub mod Lists
 pub mod Pruned
-pub mod Stack
 pub mod Used

@@ -5,7 +5,6 @@ ghost use Rattle.tree.specs.Distance.{Distance};
 ghost use Rattle.tree.specs.Parts.{parts};
 ghost use Rattle.tree.specs.Rows.{node_symbol};
 
-use crate::evaluate::evaluate;
 use crate::scene::Scene;
 use joints::joint::Joint;
 use solids::solid::Solid;
@@ -16,6 +15,6 @@ impl<'a, S: Solid, J: Joint> Scene<'a, S, J> {
     pub fn distance(&self, p: Point) -> i32
         ensures { Distance (parts S.dist J.radius J.fillet self.now.solids.now self.now.joints.now) (map node_symbol self.now.nodes.now) (at p) result }
     {
-        evaluate(self.solids, self.joints, self.list, p)
+        self.whole().value(p)
     }
 }

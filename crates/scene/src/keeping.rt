@@ -1,20 +1,9 @@
 // What happens where an operator drops out: which operand is kept, where its entries go, and its turn.
 ghost use Rattle.std.specs.Prelude.{◌≡◌, ◌+◌, ◌-◌, ◌*◌, ◌<◌, ◌≤◌, cond, [], ◌∷◌, ◌++◌, length, take, drop, nat_lt, slice_index_or, slice_range};
 ghost use Rattle.scene.specs.Keeping.{keeps_first, entry_turned_by};
-ghost use Rattle.tree.specs.Parts.{joint_radius};
 ghost use Rattle.tree.specs.Rows.{blend_op};
-ghost use Rattle.tree.specs.Tree.{gap};
 
-use joints::joint::Joint;
 use tree::node::{Blend, Entry};
-
-// Whether the gap of two values is above k + 2R, with k the radius of the joint of this number and R `within`.
-pub(crate) fn drops_out<J: Joint>(joints: &[J], number: u16, within: u16, a: i32, b: i32) -> bool
-    requires { number < length joints.now }
-    ensures { result ≡ nat_lt (joint_radius J.radius joints.now number + 2 * within) (gap a b) }
-{
-    a.abs_diff(b) > u32::from(joints[number as usize].radius()) + 2 * u32::from(within)
-}
 
 // A union keeps the lesser operand, a common the greater; whether that is the first.
 pub(crate) fn keeps_first(blend: Blend, a: i32, b: i32) -> bool

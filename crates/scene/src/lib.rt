@@ -2,9 +2,7 @@
 #![tactic(auto)]
 
 mod block;
-mod cutting;
 pub mod distance;
-mod evaluate;
 mod joining;
 mod keeping;
 pub mod lawful;
@@ -13,7 +11,6 @@ pub mod neighbourhood;
 pub mod prune;
 pub mod pruned;
 pub mod scene;
-mod stack;
 pub mod value;
 mod waiting;
 pub mod whole;

@@ -10,14 +10,6 @@ use Rattle.scene.proofs.Same.{says_the_same}
 use Rattle.scene.proofs.Tables.{in_space}
 use Rattle.scene.proofs.listing.Listing.prune.Goals as goal
 
-pub cut_down-requires : goal.cut_down-requires
-cut_down-requires g c =
-    let l = c.args.self.now in
-    record {
-      evaluable = listing_evaluable (length l.solids.now) (length l.joints.now) l.list.now l.named l.ordered l.short;
-      room = c.if-free-self.false;
-    }
-
 pub returns : goal.returns
 returns g c =
     let l = c.args.self.now in

@@ -8,14 +8,13 @@ use Rattle.tree.specs.Rows.{entry_symbol, entry_symbol_of}
 use Rattle.tree.specs.Spell.{solid}
 use Rattle.tree.specs.Tree.{handed}
 use Rattle.scene.specs.Laid.{Laid}
-use Rattle.scene.specs.Stack.{items}
 use Rattle.scene.proofs.Layouts.{solid_laid}
 use Rattle.scene.proofs.Steps.{solid_count}
-use Rattle.scene.proofs.cutting.cut_entry.Goals as goal
+use Rattle.scene.proofs.listing.Listing.cut_entry.Goals as goal
 
 pub returns-in-Solid : goal.returns-in-Solid
 returns-in-Solid g c =
-    let P : Parts = parts g.S.Solid.dist g.J.Joint.radius g.J.Joint.fillet c.args.solids.now c.args.joints.now in
+    let P : Parts = parts g.S.Solid.dist g.J.Joint.radius g.J.Joint.fillet c.args.self.now.solids.now c.args.self.now.joints.now in
     let p = at c.args.around.centre in
     let e = c.args.entry in
     let n = c.args.written in
@@ -26,11 +25,11 @@ returns-in-Solid g c =
     let up : c.handed_up-value.result ≡ handed e.turned (P.distance e.number p) = c.handed_up-value.ensures ∙ ap (handed e.turned) (to_z-of_z w32 c.distance_of-raw.result raw_fits ∙ c.distance_of-raw.ensures.value) in
     record {
       laid = λ trees laid.
-          subst (λ s. Laid P p (cut_step P p c.args.around.radius s trees) (set was n e) (n + 1) (items c.push.new.self)) (sym symbol)
-          (solid_laid P p trees e.turned e.number was (set was n e) n e (items c.args.waiting.now) (items c.push.new.self) laid symbol
+          subst (λ s. Laid P p (cut_step P p c.args.around.radius s trees) (set was n e) (n + 1) c.push.new.self) (sym symbol)
+          (solid_laid P p trees e.turned e.number was (set was n e) n e c.args.waiting.now c.push.new.self laid symbol
           (take_more_set was n e c.requires.room)
-          (c.push.ensures.after ∙ ap (λ (v : ℤ). record { value = v; start = n } ∷ items c.args.waiting.now) (to_z-of_z w32 c.handed_up-value.result up_fits ∙ up)));
-      count = solid_count e c.args.waiting.now.count c.push.new.self.count c.in-Solid.is c.push.ensures.more;
+          (c.push.ensures.after ∙ ap (λ (v : ℤ). record { value = v; start = n } ∷ c.args.waiting.now) (to_z-of_z w32 c.handed_up-value.result up_fits ∙ up)));
+      count = solid_count e c.args.waiting.now c.push.new.self _ c.in-Solid.is c.push.ensures.after;
       grown = omega arith;
       len = length-set was n e;
       beyond = drop-set-lt (n + 1) was n e (omega arith);

@@ -1,16 +1,32 @@
-use Rattle.std.proofs.Common.{◌≡◌, ◌+◌, ◌-◌, ◌≤◌, false, cond, ◌∷◌, ◌++◌, take, drop, ℤ, sym, ap, ◌∙◌, subst, arith, length-set, drop-set-lt, w32, SFits, rules}
+use Rattle.std.proofs.Common.{◌≡◌, ◌+◌, ◌-◌, ◌^◌, ◌≤◌, false, cond, ◌∷◌, ◌++◌, take, drop, set, ℤ, unsigned_abs, sym, ap, ◌∙◌, subst, arith, length-set, drop-set-lt, w32, SFits, rules}
 use Rattle.std.proofs.lemmas.List.{take_more_set}
 use Rattle.std.proofs.lemmas.Int.{to_z-of_z}
-use Rattle.tree.specs.Parts.{Parts, joint_fillet}
-use Rattle.tree.specs.Rows.{entry_symbol_of, blend_op}
+use Rattle.space.specs.At.{at}
+use Rattle.tree.specs.CutStep.{cut_step}
+use Rattle.tree.specs.Parts.{Parts, parts, joint_fillet}
+use Rattle.tree.specs.Spell.{operator}
+use Rattle.tree.specs.Rows.{entry_symbol, entry_symbol_of, blend_op}
 use Rattle.tree.specs.Tree.{handed, joined}
 use Rattle.tree.specs.declared.node.EntryKind.TheVariants.{Solid}
+use Rattle.std.specs.List.{AllByRecursion}
 use Rattle.scene.specs.Keeping.{keeps_first}
-use Rattle.scene.specs.Laid.{Laid, Stacked, with_joints}
-use Rattle.scene.specs.Stack.{items}
+use Rattle.scene.specs.declared.block.Block.{Block}
+use Rattle.scene.specs.Laid.{Laid, Stacked}
 use Rattle.scene.proofs.Freeing.{drop_later, kept_ends}
+use Rattle.scene.proofs.Joins.{picked_small}
 use Rattle.scene.proofs.Layouts.{drops_laid, stays_laid}
-use Rattle.scene.proofs.cutting.cut_operator.Goals as goal
+use Rattle.scene.proofs.listing.Listing.cut_operator.Goals as goal
+
+pub handed_up-value-requires : goal.handed_up-value-requires
+handed_up-value-requires g c =
+    let a = c.pop-a.result in
+    let b = c.pop-b.result in
+    let wait = c.pop-b.ensures.value ∙ ap (λ w. b ∷ w) c.pop-a.ensures.value in
+    let small = subst (AllByRecursion (λ (b : Block). unsigned_abs b.value ≤ 2 ^ 30)) wait c.requires.small in
+    let a_fits : SFits w32 a.value = search rules in
+    let b_fits : SFits w32 b.value = search rules in
+    let fits : SFits w32 c.pick.result = search rules in
+    picked_small c.keeps_first-first.result a.value b.value _ (to_z-of_z w32 c.pick.result fits ∙ (simp to_z-of_z at c.pick.ensures)) small.1.0 small.0
 
 pub returns-then-drops_out : goal.returns-then-drops_out
 returns-then-drops_out g c =
@@ -19,6 +35,9 @@ returns-then-drops_out g c =
     let n = c.args.written in
     let was = c.args.free.now in
     let op = blend_op c.args.blend in
+    let P : Parts = parts g.S.Solid.dist g.J.Joint.radius g.J.Joint.fillet c.args.self.now.solids.now c.args.self.now.joints.now in
+    let centre = at c.args.around.centre in
+    let symbol : entry_symbol c.args.entry ≡ operator op c.args.entry.turned c.args.entry.number = ap (λ k. entry_symbol_of k c.args.entry.turned c.args.entry.number) c.requires.kind in
     let wait = c.pop-b.ensures.value ∙ ap (λ w. b ∷ w) c.pop-a.ensures.value in
     let stacked = subst (λ w. Stacked w n) wait c.requires.stacked in
     let a_fits : SFits w32 a.value = search rules in
@@ -32,19 +51,18 @@ returns-then-drops_out g c =
     let picked : c.pick.result ≡ cond (keeps_first op a.value b.value) a.value b.value = simp to_z-of_z at c.pick.ensures ∙ ap (λ k. cond k a.value b.value) which in
     let up : c.handed_up-value.result ≡ handed c.args.entry.turned (cond (keeps_first op a.value b.value) a.value b.value) = c.handed_up-value.ensures ∙ ap (handed c.args.entry.turned) (to_z-of_z w32 c.pick.result picked_fits ∙ picked) in
     record {
-      laid = λ distance centre trees laid.
-          let P : Parts = with_joints g.J.Joint.radius g.J.Joint.fillet c.args.joints.now distance in
+      laid = λ trees laid.
           let two = subst (λ w. Laid P centre trees was n w) wait laid in
-          drops_laid P centre c.args.within c.args.blend c.args.entry.turned c.args.entry.number was n a b (items c.pop-a.new.self) trees two
-          c.keep-end.new.free c.combine.new.free c.keep-end.result (record { kind = Solid; turned = false; number = 0 }) (items c.push.new.self)
+          subst (λ s. Laid P centre (cut_step P centre c.args.around.radius s trees) c.combine.new.free c.keep-end.result c.push.new.self) (sym symbol) (drops_laid P centre c.args.around.radius c.args.blend c.args.entry.turned c.args.entry.number was n a b c.pop-a.new.self trees two
+          c.keep-end.new.free c.combine.new.free c.keep-end.result (record { kind = Solid; turned = false; number = 0 }) c.push.new.self
           (record {
             out = sym (simp to_z-of_z at c.drops_out.ensures) ∙ c.if-drops_out.true;
             end = c.keep-end.ensures.value ∙ ap (λ k. a.start + cond k (b.start - a.start) (n - b.start)) which;
             within = omega (arith, c.keep-end.ensures.len, shorter, c.requires.room);
             kept_front = c.keep-end.ensures.front ∙ ap (λ k. take a.start was ++ cond k (take (b.start - a.start) (drop a.start was)) (take (n - b.start) (drop b.start was))) which;
             changed = c.combine.ensures.front;
-            wait = c.push.ensures.after ∙ ap (λ (v : ℤ). record { value = v; start = a.start } ∷ items c.pop-a.new.self) (to_z-of_z w32 c.handed_up-value.result up_fits ∙ up);
-          });
+            wait = c.push.ensures.after ∙ ap (λ (v : ℤ). record { value = v; start = a.start } ∷ c.pop-a.new.self) (to_z-of_z w32 c.handed_up-value.result up_fits ∙ up);
+          }));
       count = omega (arith, c.push.ensures.more, c.pop-a.ensures.fewer, c.pop-b.ensures.fewer);
       grown = omega (arith, shorter);
       len = c.combine.ensures.len ∙ c.keep-end.ensures.len;
@@ -60,7 +78,10 @@ returns-else-drops_out g c =
     let n = c.args.written in
     let was = c.args.free.now in
     let op = blend_op c.args.blend in
-    let F = joint_fillet g.J.Joint.fillet c.args.joints.now c.args.entry.number in
+    let P : Parts = parts g.S.Solid.dist g.J.Joint.radius g.J.Joint.fillet c.args.self.now.solids.now c.args.self.now.joints.now in
+    let centre = at c.args.around.centre in
+    let symbol : entry_symbol c.args.entry ≡ operator op c.args.entry.turned c.args.entry.number = ap (λ k. entry_symbol_of k c.args.entry.turned c.args.entry.number) c.requires.kind in
+    let F = joint_fillet g.J.Joint.fillet c.args.self.now.joints.now c.args.entry.number in
     let wait = c.pop-b.ensures.value ∙ ap (λ w. b ∷ w) c.pop-a.ensures.value in
     let a_fits : SFits w32 a.value = search rules in
     let b_fits : SFits w32 b.value = search rules in
@@ -69,17 +90,16 @@ returns-else-drops_out g c =
     let joins : c.joined_of-raw.result ≡ joined op F a.value b.value = simp to_z-of_z at c.joined_of-raw.ensures.value in
     let up : c.handed_up.result ≡ handed c.args.entry.turned (joined op F a.value b.value) = c.handed_up.ensures ∙ ap (handed c.args.entry.turned) (to_z-of_z w32 c.joined_of-raw.result raw_fits ∙ joins) in
     record {
-      laid = λ distance centre trees laid.
-          let P : Parts = with_joints g.J.Joint.radius g.J.Joint.fillet c.args.joints.now distance in
+      laid = λ trees laid.
           let two = subst (λ w. Laid P centre trees was n w) wait laid in
-          stays_laid P centre c.args.within c.args.blend c.args.entry.turned c.args.entry.number was n a b (items c.pop-a.new.self) trees two
-          c.args.entry _ (items c.push-else-drops_out.new.self)
+          subst (λ s. Laid P centre (cut_step P centre c.args.around.radius s trees) (set was n c.args.entry) (n + 1) c.push-else-drops_out.new.self) (sym symbol) (stays_laid P centre c.args.around.radius c.args.blend c.args.entry.turned c.args.entry.number was n a b c.pop-a.new.self trees two
+          c.args.entry _ c.push-else-drops_out.new.self
           (record {
             in_gap = sym (simp to_z-of_z at c.drops_out.ensures) ∙ c.if-drops_out.false;
-            symbol = ap (λ k. entry_symbol_of k c.args.entry.turned c.args.entry.number) c.requires.kind;
+            symbol = symbol;
             after = take_more_set was n c.args.entry c.requires.room;
-            wait = c.push-else-drops_out.ensures.after ∙ ap (λ (v : ℤ). record { value = v; start = a.start } ∷ items c.pop-a.new.self) (to_z-of_z w32 c.handed_up.result up_fits ∙ up);
-          });
+            wait = c.push-else-drops_out.ensures.after ∙ ap (λ (v : ℤ). record { value = v; start = a.start } ∷ c.pop-a.new.self) (to_z-of_z w32 c.handed_up.result up_fits ∙ up);
+          }));
       count = omega (arith, c.push-else-drops_out.ensures.more, c.pop-a.ensures.fewer, c.pop-b.ensures.fewer);
       grown = omega arith;
       len = length-set was n c.args.entry;
