@@ -1,12 +1,12 @@
 // Cutting a list down for the points near a centre, entry by entry for every kind of solid and joint.
 ghost use Rattle.std.specs.Prelude.{◌≡◌, ◌+◌, ◌^◌, ◌<◌, ◌≤◌, true, List, length, drop, if◌then◌else◌, unsigned_abs};
 ghost use Rattle.scene.specs.Laid.{Laid, Stacked};
+ghost use Rattle.scene.specs.Meant.{listed};
 ghost use Rattle.scene.specs.Lists.{named, Ready, counted};
 ghost use Rattle.scene.specs.Pruned.{CutDown, PruneOutcome, SaysTheSame, RestKept, Again};
 ghost use Rattle.space.specs.At.{at};
 ghost use Rattle.std.specs.List.{AllByRecursion};
 ghost use Rattle.tree.specs.CutStep.{cut_step};
-ghost use Rattle.tree.specs.Parts.{parts};
 ghost use Rattle.tree.specs.Rows.{entry_symbol};
 ghost use Rattle.tree.specs.Tree.{Tree};
 ghost use Rattle.tree.specs.declared.node.EntryKind.TheVariants.{Operator};
@@ -29,8 +29,8 @@ impl<'a, S: Solid, J: Joint> Listing<'a, S, J> {
     // the neighbourhood the pruned list says what the list says. Of the rest of the free part only what `rest`
     // says is certain. The pruned list can be cut down in its turn.
     pub fn prune(&self, around: Neighbourhood, free: &mut [Entry]) -> Result<Pruned, Refusal>
-        ensures outcome { PruneOutcome (parts S.dist J.radius J.fillet self.now.solids.now self.now.joints.now) (at around.centre) around.radius self.now.list.now free.old free.new result }
-        ensures same { SaysTheSame (parts S.dist J.radius J.fillet self.now.solids.now self.now.joints.now) (at around.centre) around.radius self.now.list.now free.new result }
+        ensures outcome { PruneOutcome (listed S.Solid J.Joint self.now) (at around.centre) around.radius self.now.list.now free.old free.new result }
+        ensures same { SaysTheSame (listed S.Solid J.Joint self.now) (at around.centre) around.radius self.now.list.now free.new result }
         ensures rest { RestKept self.now.list.now free.old free.new }
         ensures again { Again (length self.now.solids.now) (length self.now.joints.now) free.new result }
     {
@@ -43,7 +43,7 @@ impl<'a, S: Solid, J: Joint> Listing<'a, S, J> {
     // The list cut down into a free part that is at least as long.
     fn cut_down(&self, around: Neighbourhood, free: &mut [Entry]) -> Pruned
         requires { length self.now.list.now ≤ length free.old }
-        ensures cut { CutDown (parts S.dist J.radius J.fillet self.now.solids.now self.now.joints.now) (at around.centre) around.radius self.now.list.now free.new result }
+        ensures cut { CutDown (listed S.Solid J.Joint self.now) (at around.centre) around.radius self.now.list.now free.new result }
         ensures rest { RestKept self.now.list.now free.old free.new }
     {
         let mut waiting = Waiting::new(Block { value: 0, start: 0 });
@@ -72,7 +72,7 @@ impl<'a, S: Solid, J: Joint> Listing<'a, S, J> {
         requires stacked { Stacked waiting.old written }
         requires small { AllByRecursion (λ b. unsigned_abs b.value ≤ 2 ^ 30) waiting.old }
         requires room { written < length free.old }
-        ensures laid { (trees : List Tree) → Laid (parts S.dist J.radius J.fillet self.now.solids.now self.now.joints.now) (at around.centre) trees free.old written waiting.old → Laid (parts S.dist J.radius J.fillet self.now.solids.now self.now.joints.now) (at around.centre) (cut_step (parts S.dist J.radius J.fillet self.now.solids.now self.now.joints.now) (at around.centre) around.radius (entry_symbol entry) trees) free.new result waiting.new }
+        ensures laid { (trees : List Tree) → Laid (listed S.Solid J.Joint self.now) (at around.centre) trees free.old written waiting.old → Laid (listed S.Solid J.Joint self.now) (at around.centre) (cut_step (listed S.Solid J.Joint self.now) (at around.centre) around.radius (entry_symbol entry) trees) free.new result waiting.new }
         ensures count { length waiting.new ≡ counted (entry_symbol entry) (length waiting.old) }
         ensures grown { result ≤ written + 1 }
         ensures len { length free.new ≡ length free.old }
@@ -112,7 +112,7 @@ impl<'a, S: Solid, J: Joint> Listing<'a, S, J> {
         requires stacked { Stacked waiting.old written }
         requires small { AllByRecursion (λ b. unsigned_abs b.value ≤ 2 ^ 30) waiting.old }
         requires room { written < length free.old }
-        ensures laid { (trees : List Tree) → Laid (parts S.dist J.radius J.fillet self.now.solids.now self.now.joints.now) (at around.centre) trees free.old written waiting.old → Laid (parts S.dist J.radius J.fillet self.now.solids.now self.now.joints.now) (at around.centre) (cut_step (parts S.dist J.radius J.fillet self.now.solids.now self.now.joints.now) (at around.centre) around.radius (entry_symbol entry) trees) free.new result waiting.new }
+        ensures laid { (trees : List Tree) → Laid (listed S.Solid J.Joint self.now) (at around.centre) trees free.old written waiting.old → Laid (listed S.Solid J.Joint self.now) (at around.centre) (cut_step (listed S.Solid J.Joint self.now) (at around.centre) around.radius (entry_symbol entry) trees) free.new result waiting.new }
         ensures count { length waiting.new + 1 ≡ length waiting.old }
         ensures grown { result ≤ written + 1 }
         ensures len { length free.new ≡ length free.old }

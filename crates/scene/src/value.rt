@@ -1,10 +1,10 @@
 // The value of a list at a point, worked out entry by entry for every kind of solid and joint.
 ghost use Rattle.std.specs.Prelude.{◌≡◌, ◌^◌, ◌≤◌, true, map, length, unsigned_abs};
+ghost use Rattle.scene.specs.Meant.{listed};
 ghost use Rattle.scene.specs.Lists.{named, Ready, counted};
 ghost use Rattle.space.specs.At.{at};
 ghost use Rattle.std.specs.List.{AllByRecursion};
 ghost use Rattle.tree.specs.Distance.{Distance};
-ghost use Rattle.tree.specs.Parts.{parts};
 ghost use Rattle.tree.specs.Rows.{entry_symbol};
 ghost use Rattle.tree.specs.Stepped.{stepped};
 
@@ -19,7 +19,7 @@ use tree::node::{Entry, EntryKind};
 impl<'a, S: Solid, J: Joint> Listing<'a, S, J> {
     // The value at a point: that of the tree which the list spells.
     pub fn value(&self, p: Point) -> i32
-        ensures { Distance (parts S.dist J.radius J.fillet self.now.solids.now self.now.joints.now) (map entry_symbol self.now.list.now) (at p) result }
+        ensures { Distance (listed S.Solid J.Joint self.now) (map entry_symbol self.now.list.now) (at p) result }
     {
         let mut waiting = Waiting::new(0);
         for entry in self.list {
@@ -33,7 +33,7 @@ impl<'a, S: Solid, J: Joint> Listing<'a, S, J> {
         requires inside { named (length self.now.solids.now) (length self.now.joints.now) (entry_symbol entry) ≡ true }
         requires ready { Ready (entry_symbol entry) (length waiting.old) }
         requires small { AllByRecursion (λ v. unsigned_abs v ≤ 2 ^ 30) waiting.old }
-        ensures after { waiting.new ≡ stepped (parts S.dist J.radius J.fillet self.now.solids.now self.now.joints.now) (at p) (entry_symbol entry) waiting.old }
+        ensures after { waiting.new ≡ stepped (listed S.Solid J.Joint self.now) (at p) (entry_symbol entry) waiting.old }
         ensures count { length waiting.new ≡ counted (entry_symbol entry) (length waiting.old) }
     {
         let raw = match entry.kind {
