@@ -2,6 +2,7 @@
 #![tactic(auto)]
 
 mod block;
+mod cut;
 pub mod distance;
 mod joining;
 mod keeping;
