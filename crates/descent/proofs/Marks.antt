@@ -1,13 +1,10 @@
 -- The far mark of a value, worked out without its size. Assumes nothing.
-use Rattle.std.proofs.Common.{◌≡◌, ℕ, ◌*◌, ◌<◌, ◌≤◌, cond, ℤ, pos, negsuc, ◌+ℤ◌, ◌-ℤ◌, nat_abs, ◌≤ℤ◌, ◌<ℤ◌, Some, None, sym, ap, ◌∙◌, arith}
+use Rattle.std.proofs.Common.{◌≡◌, ℕ, ◌*◌, ◌<◌, cond, ℤ, pos, negsuc, ◌+ℤ◌, ◌-ℤ◌, nat_abs, ◌≤ℤ◌, ◌<ℤ◌, Some, None, sym, ap, arith}
 use Rattle.std.proofs.lemmas.Int.{ints, clamps}
-use Rattle.std.proofs.lemmas.Bool.{lt-ltb, le-ltb}
+use Rattle.std.proofs.lemmas.Bool.{lt-ltb}
 use Rattle.std.specs.Int.{int_max, int_min}
 use Rattle.tree.specs.Far.{far_constant}
 use Rattle.descent.specs.Descent.{far_mark}
-
-pub near_mark : (C R : ℕ) (d : ℤ) → nat_abs d ≤ C * R → None ≡ far_mark C R d
-near_mark C R d small = ap (λ b. cond b (Some (far_constant R d)) None) (sym (le-ltb (C * R) (nat_abs d) small))
 
 below : (R : ℕ) (d : ℤ) → d <ℤ pos 0 → int_min (d +ℤ pos R) (pos 0) ≡ far_constant R d
 below R (pos d) low = absurd (let f : ⊥ = omega (arith, ints) in f)
@@ -20,9 +17,3 @@ above R (negsuc d) high = absurd (let f : ⊥ = omega (arith, ints) in f)
 module _ (C R : ℕ) (d : ℤ) (large : C * R < nat_abs d) where
   is : Some (far_constant R d) ≡ far_mark C R d
   is = ap (λ b. cond b (Some (far_constant R d)) None) (sym (lt-ltb (C * R) (nat_abs d) large))
-
-  pub far_below : d <ℤ pos 0 → Some (int_min (d +ℤ pos R) (pos 0)) ≡ far_mark C R d
-  far_below low = ap (λ (c : ℤ). Some c) (below R d low) ∙ is
-
-  pub far_above : pos 0 ≤ℤ d → Some (int_max (d -ℤ pos R) (pos 0)) ≡ far_mark C R d
-  far_above high = ap (λ (c : ℤ). Some c) (above R d high) ∙ is
