@@ -1,4 +1,4 @@
-use Rattle.std.proofs.Common.{◌≡◌, ◌+◌, ◌*◌, ◌^◌, ◌≤◌, false, [], map, length, get_or, sym, refl, ap, ◌∙◌, subst₂, add-one, arith, w32, SFits, rules}
+use Rattle.std.proofs.Common.{◌≡◌, ◌+◌, ◌*◌, ◌^◌, ◌≤◌, false, [], map, length, get_or, sym, ap, ◌∙◌, subst₂, add-one, arith, w32, SFits, rules}
 use Rattle.std.proofs.lemmas.Int.{to_z-of_z}
 use Rattle.space.specs.At.{at}
 use Rattle.std.proofs.lemmas.List.{length-map}
@@ -9,19 +9,10 @@ use Rattle.tree.specs.Parts.{parts}
 use Rattle.tree.specs.Rows.{entry_symbol}
 use Rattle.tree.specs.Stepped.{stepped, on_top}
 use Rattle.tree.specs.declared.node.EntryKind.TheVariants.{Solid}
-use Rattle.scene.proofs.Listings.{listing_evaluable, listing_distance}
-use Rattle.scene.proofs.Loops.{Midway, at_start, at_finish, is_named, is_ready, next, symbol_here}
+use Rattle.scene.proofs.Listings.{listing_distance}
+use Rattle.scene.proofs.Loops.{Midway, at_finish, is_named, is_ready, next, symbol_here}
 use Rattle.scene.proofs.Tables.{in_space}
 use Rattle.scene.proofs.listing.Listing.value.Goals as goal
-
-pub loop-entry-init : goal.loop-entry-init
-loop-entry-init g c =
-    let L = c.args.self.now in
-    let P = parts g.S.Solid.dist g.J.Joint.radius g.J.Joint.fillet L.solids.now L.joints.now in
-    let p = at c.args.p in
-    let l = map entry_symbol L.list.now in
-    rw c.new-waiting.ensures
-    (at_start (stepped P p) (λ s. s) [] (length L.solids.now) (length L.joints.now) l refl (listing_evaluable (length L.solids.now) (length L.joints.now) L.list.now L.named L.ordered L.short))
 
 pub step-requires : goal.step-requires
 step-requires g c =
