@@ -1,5 +1,6 @@
 // The whole scene as a gauge: every reading is exact and moves nothing.
 ghost use Rattle.gauges.specs.Exact.{ExactReads};
+ghost use Rattle.gauges.specs.SceneLaws.{scene_laws};
 ghost use Rattle.gauges.specs.SceneMeans.{scene_means};
 
 use joints::joint::Joint;
@@ -21,11 +22,8 @@ impl<'s, 'a, S: Solid, J: Joint> Gauge for WholeScene<'s, 'a, S, J> {
 
     ghost means = { λ w. scene_means S.dist J.radius J.fillet w.scene.now };
 
+    // what it means stands here again, since a value sees no other member of its `impl`
     ghost reads = { ExactReads (λ w. scene_means S.dist J.radius J.fillet w.scene.now) };
-
-    fn laws() -> u8 {
-        0
-    }
 
     fn sure(&self, p: Point) -> i32 {
         self.scene.distance(p)
@@ -34,4 +32,6 @@ impl<'s, 'a, S: Solid, J: Joint> Gauge for WholeScene<'s, 'a, S, J> {
     fn quick(&mut self, p: Point) -> Reading {
         Reading::Exact(self.sure(p))
     }
+
+    ghost laws = { scene_laws S.dist J.radius J.fillet S.near S.ranged J.smooth (λ w. w.scene.now) };
 }

@@ -3,7 +3,7 @@ use Rattle.space.specs.At.{at}
 use Rattle.std.proofs.lemmas.Int.{to_z-of_z}
 use Rattle.tree.specs.Parts.{parts}
 use Rattle.tree.specs.Rows.{node_symbol}
-use Rattle.gauges.proofs.Scenes.{scene_distance_law}
+use Rattle.gauges.specs.Scenes.{scene_distance_law}
 use Rattle.gauges.proofs.whole_scene.WholeSceneGauge.sure.Goals as goal
 
 pub returns : goal.returns
