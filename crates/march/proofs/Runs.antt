@@ -1,11 +1,11 @@
 -- What is certain of a march after any number of steps. Assumes nothing.
-use Rattle.std.proofs.Common.{◌≡◌, ℕ, suc, ◌-◌, ◌<◌, ◌≤◌, sym, refl, ap, ◌∙◌, subst, zero-le, arith}
+use Rattle.std.proofs.Common.{◌≡◌, ℕ, suc, sym, refl, ◌∙◌, subst, zero-le, arith}
 use Rattle.setpoints.proofs.SetPoints.{set_points_law}
 use Rattle.space.specs.Pt.{Pt}
 use Rattle.march.specs.Kept.{Kept}
 use Rattle.march.specs.Laws.{GaugeLaws}
 use Rattle.march.specs.Motion.{route}
-use Rattle.march.specs.Route.{last, point_at}
+use Rattle.march.specs.Route.{point_at}
 use Rattle.march.specs.Run.{Marched, begun, stepped, Certain, ByHandLaw}
 use Rattle.march.specs.State.{State, moving, moving_state}
 use Rattle.march.specs.Step.{Stepped}
@@ -14,7 +14,7 @@ use Rattle.march.specs.declared.gauge.Gauge.{Ghosts as Gauge}
 use Rattle.march.specs.declared.motion.Motion.{Motion}
 use Rattle.march.specs.declared.moving.Moving.{Moving}
 use Rattle.march.proofs.Points.{in_space}
-use Rattle.march.proofs.Strides.{after, grows}
+use Rattle.march.proofs.Strides.{after}
 use Rattle.march.proofs.Told.{told}
 
 -- a kind of gauge under the laws
@@ -59,13 +59,3 @@ module _ {G : Type 0} (K : Gauge G) (law : GaugeLaws K.holds K.means K.reads) wh
     one_more k mv h h'' s run step =
         let same = (alone run).1.0 in
         stepped (subst (λ r. Alone k (moving r mv.number) h) same run) refl (subst (λ r. Stepped K r mv.number h h'' s) same step)
-
-  -- what is left of the way falls
-  pub falls : (mv next : Moving) (h h'' : G) → Stepped K (route mv.motion) mv.number h h'' (moving_state next) → last (route next.motion) - next.number < last (route mv.motion) - mv.number
-  falls mv next h h'' step =
-      let went = grows (route mv.motion) (route next.motion) mv.number next.number step.value step.so in
-      let same = ap last went.0 in
-      shrinks (last (route next.motion)) (last (route mv.motion)) next.number mv.number same next.within went.1
-    where
-      shrinks : (n n' j i : ℕ) → n ≡ n' → j ≤ n → i < j → n - j < n' - i
-      shrinks n n' j i e le lt = omega arith

@@ -3,7 +3,7 @@ use Rattle.march.specs.Ends.{Ends}
 use Rattle.march.specs.Motion.{route}
 use Rattle.march.specs.Run.{Marched, begun, Whole}
 use Rattle.march.specs.State.{moving, ended}
-use Rattle.march.proofs.Runs.{by_hand, alone, one_more, falls}
+use Rattle.march.proofs.Runs.{by_hand, alone, one_more}
 use Rattle.march.proofs.Strides.{same_place}
 use Rattle.march.proofs.whole.march.Goals as goal
 
@@ -18,11 +18,6 @@ pub step-requires : goal.step-requires
 step-requires g c =
     let K = g.G.Gauge in
     (alone K g.met.G.Gauge.laws c.begin-moving.result.motion c.args.gauge.now c.requires c.loop-next.invariant.1).0.holding
-
-pub loop-next-smaller : goal.loop-next-smaller
-loop-next-smaller g c =
-    let K = g.G.Gauge in
-    falls K g.met.G.Gauge.laws c.loop-next.moving c.in-Continue.next c.loop-next.gauge c.step.new.gauge c.in-Continue.ensures.stepped
 
 pub loop-next-preserved : goal.loop-next-preserved
 loop-next-preserved g c =
