@@ -2,8 +2,8 @@
 ghost use Rattle.std.specs.Prelude.{map};
 ghost use Rattle.clearance.specs.Answers.{Answers, AnswersAt};
 ghost use Rattle.clearance.specs.Lines.{call_of};
+ghost use Rattle.scene.specs.Meant.{placed};
 ghost use Rattle.space.specs.At.{pt_outcome};
-ghost use Rattle.tree.specs.Parts.{parts};
 ghost use Rattle.tree.specs.Rows.{node_symbol};
 
 use crate::answer::{Answer, Fault};
@@ -21,7 +21,7 @@ fn answer_at<S: Solid, J: Joint>(
     y: i32,
     z: i32,
 ) -> Result<Answer, Fault>
-    ensures { AnswersAt (parts S.dist J.radius J.fillet scene.now.solids.now scene.now.joints.now) (map node_symbol scene.now.nodes.now) (pt_outcome x y z) result }
+    ensures { AnswersAt (placed S.Solid J.Joint scene.now) (map node_symbol scene.now.nodes.now) (pt_outcome x y z) result }
 {
     let p = Point::new(x, y, z)?;
     Ok(Answer::At(scene.distance(p)))
@@ -29,7 +29,7 @@ fn answer_at<S: Solid, J: Joint>(
 
 // The answer of a scene to a line.
 pub fn answer<S: Solid, J: Joint>(scene: &Scene<S, J>, line: &str) -> Result<Answer, Fault>
-    ensures { Answers (parts S.dist J.radius J.fillet scene.now.solids.now scene.now.joints.now) (map node_symbol scene.now.nodes.now) (call_of line.now) result }
+    ensures { Answers (placed S.Solid J.Joint scene.now) (map node_symbol scene.now.nodes.now) (call_of line.now) result }
 {
     match read_call(line).ok_or(Fault::Bad)? {
         Call::Distance(x, y, z) => answer_at(scene, x, y, z),

@@ -13,7 +13,7 @@ use solids::solid::Solid;
 
 // How a march through a scene ends: as the scene's distances say.
 pub fn march_through<S: Solid, J: Joint>(scene: &Scene<'_, S, J>, motion: Motion) -> Option<Met>
-    ensures { Ends (scene_means S.dist J.radius J.fillet scene.now) (route motion) result }
+    ensures { Ends (scene_means S.Solid J.Joint scene.now) (route motion) result }
 {
     let mut gauge = WholeScene { scene };
     march(motion, &mut gauge).result()

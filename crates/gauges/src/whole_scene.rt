@@ -20,10 +20,10 @@ impl<'s, 'a, S: Solid, J: Joint> Gauge for WholeScene<'s, 'a, S, J> {
     // a scene's type says all that it must hold
     ghost holds = { λ _. Unit {0} };
 
-    ghost means = { λ w. scene_means S.dist J.radius J.fillet w.scene.now };
+    ghost means = { λ w. scene_means S.Solid J.Joint w.scene.now };
 
     // what it means stands here again, since a value sees no other member of its `impl`
-    ghost reads = { ExactReads (λ w. scene_means S.dist J.radius J.fillet w.scene.now) };
+    ghost reads = { ExactReads (λ w. scene_means S.Solid J.Joint w.scene.now) };
 
     fn sure(&self, p: Point) -> i32 {
         self.scene.distance(p)
@@ -33,5 +33,5 @@ impl<'s, 'a, S: Solid, J: Joint> Gauge for WholeScene<'s, 'a, S, J> {
         Reading::Exact(self.sure(p))
     }
 
-    ghost laws = { scene_laws S.dist J.radius J.fillet S.near S.ranged J.smooth (λ w. w.scene.now) };
+    ghost laws = { scene_laws S.Solid.own J.Joint.own S.near S.ranged J.smooth (λ w. w.scene.now) };
 }
