@@ -1,19 +1,21 @@
-use Rattle.std.proofs.Common.{rules}
-use Rattle.clearance.proofs.Letters.{distance_letter, other_character, no_character}
+use Rattle.std.proofs.Common.{sym, ◌∙◌}
+use Rattle.clearance.proofs.Calls.{lone_field, s_call, other_call}
+use Rattle.clearance.proofs.Fields.{one_field, first_field}
 use Rattle.clearance.proofs.reading.read_call.Goals as goal
 
-pub returns-in_ok-after_letter-in-Some-s : goal.returns-in_ok-after_letter-in-Some-s
-returns-in_ok-after_letter-in-Some-s c =
-    let same = c.chars.ensures.rest in
-    let e = c.in-Some-s.ensures.steps.0 in
-    let first = c.in_ok-after_letter-in-Some-s.ensures.1 in
-    search (rules, distance_letter)
+pub returns-in_err-rest : goal.returns-in_err-rest
+returns-in_err-rest c =
+    let line = c.args.line.now in
+    c.from_residual.ensures ∙ sym (lone_field line (one_field line c.in_err-rest.ensures.cases))
+
+pub returns-in-s-default : goal.returns-in-s-default
+returns-in-s-default c =
+    let line = c.args.line.now in
+    let parts = c.in_ok-rest.field-0 in
+    c.read_point.ensures ∙ sym (s_call line parts.0.now parts.1.now (first_field line parts c.in_ok-rest.ensures.cases) c.in-s-default.is-s-0)
 
 pub returns-in_default : goal.returns-in_default
 returns-in_default c =
-    let same = c.chars.ensures.rest in
-    let e = c.in_default.ensures.steps.0 in
-    search (rules, other_character)
-
-pub returns-in_default-2 : goal.returns-in_default-2
-returns-in_default-2 c = search (rules, no_character)
+    let line = c.args.line.now in
+    let parts = c.in_ok-rest.field-0 in
+    sym (other_call line parts.0.now parts.1.now (first_field line parts c.in_ok-rest.ensures.cases) c.in_default.not-s-0)
