@@ -45,8 +45,9 @@ fn read_point(text: &str) -> Option<Call>
 pub fn read_call(line: &str) -> Option<Call>
     ensures { result ≡ call_of line.now }
 {
-    match line.split_once(' ')? {
-        ("s", rest) => read_point(rest),
+    let (name, rest) = line.split_once(' ')?;
+    match name.chars().next() {
+        Some('s') if name.len() == 1 => read_point(rest),
         _ => None,
     }
 }
