@@ -66,14 +66,14 @@ impl Cell {
     pub fn side(self) -> u16
         ensures { result ≡ side self.level }
     {
-        LEVELS[self.level as usize].side
+        LEVELS[usize::from(self.level)].side
     }
 
     // How far the cell's points are from its centre at most, rounded up.
     pub fn radius(self) -> u16
         ensures { result ≡ radius self.level }
     {
-        LEVELS[self.level as usize].radius
+        LEVELS[usize::from(self.level)].radius
     }
 
     // The low corner plus half the side, rounded down.
@@ -136,7 +136,7 @@ impl Cell {
         requires { self.level < 7 }
         ensures { result ≡ side (suc self.level) }
     {
-        LEVELS[self.level as usize + 1].side
+        LEVELS[usize::from(self.level) + 1].side
     }
 }
 
@@ -146,14 +146,14 @@ fn part(extent: u16, place: u8, low: i16) -> i16
     requires held { HeldBySpace (4 * extent) low }
     ensures { result ≡ part extent place low }
 {
-    low + (place as u16 * extent) as i16
+    low + (u16::from(place) * extent) as i16
 }
 
 // On one axis: whether a span of this extent has the coordinate.
 fn spans(extent: u16, low: i16, a: i16) -> bool
     ensures { result ≡ spans extent low a }
 {
-    low <= a && (a as i32) < low as i32 + extent as i32
+    low <= a && i32::from(a) < i32::from(low) + i32::from(extent)
 }
 
 // On one axis: the place of the part that has the coordinate, among four parts of this extent.

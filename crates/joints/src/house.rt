@@ -31,7 +31,7 @@ impl Joint for HouseJoint {
         match *self {
             HouseJoint::Sharp => 0,
             HouseJoint::Rounded(r) => {
-                let k = r.k as u32;
+                let k = u32::from(r.k);
                 let m = k.saturating_sub(gap);
                 (m * m / (4 * k)) as u16
             }

@@ -18,7 +18,7 @@ impl<'a, S: Solid, J: Joint> Listing<'a, S, J> {
         ensures value { result ≡ solid_distance S.dist self.now.solids.now number (at p) }
         ensures bound { unsigned_abs result ≤ 32767 }
     {
-        self.solids[number as usize].distance(p)
+        self.solids[usize::from(number)].distance(p)
     }
 
     // What an operator makes of two values with the joint of this number: the lesser, less the fillet, or the
@@ -30,7 +30,7 @@ impl<'a, S: Solid, J: Joint> Listing<'a, S, J> {
         ensures value { result ≡ joined (blend_op blend) (joint_fillet J.fillet self.now.joints.now number) a b }
         ensures bound { unsigned_abs result ≤ 2 ^ 30 + 1024 }
     {
-        let fillet = i32::from(self.joints[number as usize].fillet(a.abs_diff(b)));
+        let fillet = i32::from(self.joints[usize::from(number)].fillet(a.abs_diff(b)));
         match blend {
             Blend::Union => a.min(b) - fillet,
             Blend::Common => a.max(b) + fillet,
@@ -42,7 +42,7 @@ impl<'a, S: Solid, J: Joint> Listing<'a, S, J> {
         requires { number < length self.now.joints.now }
         ensures { result ≡ nat_lt (joint_radius J.radius self.now.joints.now number + 2 * within) (gap a b) }
     {
-        a.abs_diff(b) > u32::from(self.joints[number as usize].radius()) + 2 * u32::from(within)
+        a.abs_diff(b) > u32::from(self.joints[usize::from(number)].radius()) + 2 * u32::from(within)
     }
 }
 
