@@ -6,7 +6,7 @@ use Rattle.std.proofs.lemmas.Int.{to_z-of_z}
 use Rattle.records.specs.Elements.{elements}
 use Rattle.records.specs.LittleEndian.{u16_le}
 
-elements_tail : (i n x : ℕ) (xs : List ℕ) → elements (suc i) n (x ∷ xs) ≡ elements i n xs
+pub elements_tail : (i n x : ℕ) (xs : List ℕ) → elements (suc i) n (x ∷ xs) ≡ elements i n xs
 elements_tail i zero x xs = refl
 elements_tail i (suc n) x xs = ap (λ ys. slice_index xs i ∷ ys) (elements_tail (suc i) n x xs)
 

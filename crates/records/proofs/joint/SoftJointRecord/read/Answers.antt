@@ -1,5 +1,5 @@
 use Rattle.records.specs.Joint.{soft_fields}
-use Rattle.records.proofs.joint.read_soft.Goals as goal
+use Rattle.records.proofs.joint.SoftJointRecord.read.Goals as goal
 
 pub returns-in_err-form : goal.returns-in_err-form
 returns-in_err-form c =

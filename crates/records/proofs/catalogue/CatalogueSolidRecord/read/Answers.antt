@@ -3,7 +3,7 @@ use Rattle.records.specs.Catalogue.{raw_of}
 use Rattle.records.specs.Raw.{raw_record}
 use Rattle.records.specs.Fields.{Fit, raw_same, fit_of}
 use Rattle.records.proofs.Stages.{reads_through}
-use Rattle.records.proofs.catalogue.read_catalogue.Goals as goal
+use Rattle.records.proofs.catalogue.CatalogueSolidRecord.read.Goals as goal
 
 pub returns : goal.returns
 returns c =
