@@ -44,12 +44,6 @@ filled_more bytes i centres p lt f is = record {
       (ap point_record (get_or-set_same centres i p origin (omega (arith, f.eight))) ∙ is);
 }
 
-pub filled_none : (bytes : List ℕ) (centres : List Point) → length centres ≡ 8 → Filled bytes 0 centres
-filled_none bytes centres eight = record {
-  eight = eight;
-  read = λ k h. absurd (let f : ⊥ = omega arith in f);
-}
-
 -- bytes that are the record of some solid
 module _ (bytes : List ℕ) (s : Probed) (e : probed_record s ≡ bytes) (i : ℕ) (lt : i < 8) where
   pub centre_is : point_record (slice_index_or s.centres i origin) ≡ elements (4 + 6 * i) 6 bytes
