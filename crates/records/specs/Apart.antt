@@ -13,6 +13,7 @@ use Rattle.joints.specs.declared.house.HouseJoint.{HouseJoint}
 use Rattle.joints.specs.declared.house.HouseJoint.TheVariants.{Sharp, Rounded}
 use Rattle.joints.specs.declared.radius.Radius.{Radius}
 use Rattle.joints.specs.declared.soft.SoftJoint.{SoftJoint}
+use Rattle.solids.specs.AxisNumber.{axis_number}
 use Rattle.solids.specs.Normal.{normal²}
 use Rattle.solids.specs.Unused.{unused_at_origin}
 use Rattle.solids.specs.declared.catalogue.Axis.{Axis}
@@ -24,13 +25,14 @@ use Rattle.solids.specs.declared.catalogue.CatalogueSolid.TheVariants.{Ball, Blo
 use Rattle.solids.specs.declared.catalogue.Drum as drum
 use Rattle.solids.specs.declared.catalogue.Plane as plane
 use Rattle.solids.specs.declared.probed.Probed.{Probed}
+use Rattle.tree.specs.KindNumber.{kind_number}
 use Rattle.tree.specs.declared.node.Node.{Node}
 use Rattle.tree.specs.declared.node.NodeKind.{NodeKind}
 use Rattle.tree.specs.declared.node.NodeKind.TheVariants.{Solid, Union, Common, Cut}
-use Rattle.records.specs.Catalogue.{axis_number, ball_fields, block_fields, plane_fields, drum_fields, centre_field, raw_of, catalogue_record}
+use Rattle.records.specs.Catalogue.{ball_fields, block_fields, plane_fields, drum_fields, centre_field, raw_of, catalogue_record}
 use Rattle.records.specs.Elements.{elements}
 use Rattle.records.specs.Joint.{raw_joint_record, house_fields, soft_fields, house_record, soft_record}
-use Rattle.records.specs.Node.{kind_number, node_record}
+use Rattle.records.specs.Node.{node_record}
 use Rattle.records.specs.Point.{origin}
 use Rattle.records.specs.Probed.{probed_record}
 use Rattle.records.specs.declared.joint.RawJoint.{RawJoint}
@@ -100,7 +102,7 @@ soft_apart i j e =
 in_range_prop : (a : ℤ) → IsProp (InRange a)
 in_range_prop a = hlevel props
 
-point_apart : (p q : Point) → at p ≡ at q → p ≡ q
+pub point_apart : (p q : Point) → at p ≡ at q → p ≡ q
 point_apart p q e = λ i. record {
   x = (e i).x;
   y = (e i).y;

@@ -1,8 +1,7 @@
 -- The fields of each kind of catalogue solid, and its record. Assumes nothing.
 use Rattle.std.specs.Prelude.{ℕ, List, pos}
 use Rattle.space.specs.Pt.{Pt}
-use Rattle.solids.specs.declared.catalogue.Axis.{Axis}
-use Rattle.solids.specs.declared.catalogue.Axis.TheVariants.{X, Y, Z}
+use Rattle.solids.specs.AxisNumber.{axis_number}
 use Rattle.solids.specs.declared.catalogue.Ball as ball
 use Rattle.solids.specs.declared.catalogue.Block as block
 use Rattle.solids.specs.declared.catalogue.CatalogueSolid.{CatalogueSolid}
@@ -11,11 +10,6 @@ use Rattle.solids.specs.declared.catalogue.Drum as drum
 use Rattle.solids.specs.declared.catalogue.Plane as plane
 use Rattle.records.specs.Raw.{raw_record}
 use Rattle.records.specs.declared.raw.RawSolid.{RawSolid}
-
-abbrev pub axis_number : Axis → ℕ
-axis_number X = 0
-axis_number Y = 1
-axis_number Z = 2
 
 abbrev pub ball_fields : ball.Ball → RawSolid
 ball_fields s = record {

@@ -1,12 +1,12 @@
 -- Bytes as the elements of a list, and as the digits of a number. Assumes nothing.
-use Rattle.std.specs.Prelude.{◌≡◌, ℕ, zero, suc, ◌+◌, ◌*◌, ◌/◌, ◌%◌, ◌<◌, List, [], ◌∷◌, ◌++◌, length, ℤ, FitsSigned, slice_index, refl}
-use Rattle.std.proofs.Common.{arith, ap, sym, ◌∙◌, Fits, of_z, to_z}
-use Rattle.std.specs.Int.{Width, w8}
+use Rattle.std.specs.Prelude.{◌≡◌, ℕ, zero, suc, ◌+◌, ◌*◌, ◌/◌, ◌%◌, ◌<◌, List, [], ◌∷◌, length, ℤ, FitsSigned, slice_index, refl}
+use Rattle.std.proofs.Common.{arith, ap, sym, ◌∙◌, of_z, to_z}
+use Rattle.std.specs.Int.{Width}
 use Rattle.std.proofs.lemmas.Int.{to_z-of_z}
 use Rattle.records.specs.Elements.{elements}
 use Rattle.records.specs.LittleEndian.{u16_le}
 
-elements_tail : (i n x : ℕ) (xs : List ℕ) → elements (suc i) n (x ∷ xs) ≡ elements i n xs
+pub elements_tail : (i n x : ℕ) (xs : List ℕ) → elements (suc i) n (x ∷ xs) ≡ elements i n xs
 elements_tail i zero x xs = refl
 elements_tail i (suc n) x xs = ap (λ ys. slice_index xs i ∷ ys) (elements_tail (suc i) n x xs)
 
@@ -23,14 +23,6 @@ u16_le_is a b h =
     let p : (a + b * 256) % 256 ≡ a = omega arith in
     let q : (a + b * 256) / 256 ≡ b = omega arith in
     simp (p, q)
-
--- four bytes are two numbers
-pub two_u16 : (xs : List ℕ) → ((i : ℕ) → Fits w8 (slice_index xs i)) → length xs ≡ 4 → u16_le (slice_index xs 0 + slice_index xs 1 * 256) ++ u16_le (slice_index xs 2 + slice_index xs 3 * 256) ≡ xs
-two_u16 xs typed l =
-    let all = elements_all 4 xs l in
-    let a = u16_le_is (slice_index xs 0) (slice_index xs 1) (omega (arith, typed 0)) in
-    let b = u16_le_is (slice_index xs 2) (slice_index xs 3) (omega (arith, typed 2)) in
-    cc
 
 pub signed_same : (w : Width) (a b : ℤ) → FitsSigned w a → FitsSigned w b → of_z w a ≡ of_z w b → a ≡ b
 signed_same w a b f g e = sym (to_z-of_z w a f) ∙ ap (to_z w) e ∙ to_z-of_z w b g

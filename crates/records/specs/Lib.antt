@@ -14,3 +14,4 @@ pub mod Digits
 pub mod Points
 pub mod Fields
 pub mod Squares
+pub mod Format

@@ -1,19 +1,39 @@
 // Records of catalogue solids.
-ghost use Rattle.std.specs.Prelude.{◌≡◌, ◌+◌, ◌-◌, ◌*◌, ◌<◌, ◌≤◌};
+ghost use Rattle.std.specs.Prelude.{◌≡◌, refl};
+ghost use Rattle.std.proofs.Math.Dec.{lit≤};
 ghost use Rattle.space.specs.At.{at};
-ghost use Rattle.records.specs.Catalogue.{axis_number, ball_fields, block_fields, plane_fields, drum_fields, centre_field, raw_of, catalogue_record};
+ghost use Rattle.records.specs.Apart.{catalogue_apart};
+ghost use Rattle.records.specs.Catalogue.{ball_fields, block_fields, plane_fields, drum_fields, centre_field, raw_of, catalogue_record};
 ghost use Rattle.records.specs.Reads.{Reads};
 
+use crate::bytes::put_bytes;
 use crate::point::point;
 use crate::raw::{RawSolid, raw_bytes, read_raw};
+use crate::record::Record;
 use solids::catalogue::{Axis, Ball, Block, CatalogueSolid, Drum, Plane};
 use space::point::Point;
 
-pub(crate) fn read_catalogue(bytes: &[u8]) -> Option<CatalogueSolid>
-    ensures { Reads catalogue_record bytes.now result }
-{
-    let raw = read_raw(bytes)?;
-    read_fields(raw)
+impl Record for CatalogueSolid {
+    const LENGTH: usize = 20;
+
+    ghost LENGTH = { 20 };
+
+    ghost written = { catalogue_record };
+
+    ghost sized = { λ x. refl };
+
+    ghost apart = { catalogue_apart };
+
+    ghost short = { lit≤ tt };
+
+    fn read(bytes: &[u8]) -> Option<CatalogueSolid> {
+        let raw = read_raw(bytes)?;
+        read_fields(raw)
+    }
+
+    fn write(&self, out: &mut [u8]) {
+        put_bytes(&catalogue_bytes(*self), out);
+    }
 }
 
 // The solid with these fields, if they keep the rule of its kind.
@@ -73,14 +93,14 @@ fn read_plane(raw: RawSolid) -> Option<Plane>
     if raw.h0 != 0 || raw.h1 != 0 || raw.h2 != 0 {
         return None;
     }
-    let x = raw.x.unsigned_abs() as u32;
-    let y = raw.y.unsigned_abs() as u32;
-    let z = raw.z.unsigned_abs() as u32;
+    let x = u32::from(raw.x.unsigned_abs());
+    let y = u32::from(raw.y.unsigned_abs());
+    let z = u32::from(raw.z.unsigned_abs());
     if x > 4096 || y > 4096 || z > 4096 {
         return None;
     }
     let squared = x * x + y * y + z * z;
-    let length = raw.r as u32;
+    let length = u32::from(raw.r);
     let shorter = length.saturating_sub(1);
     if squared == 0 || squared > length * length || squared <= shorter * shorter {
         return None;
@@ -104,12 +124,7 @@ fn read_drum(raw: RawSolid) -> Option<Drum>
     if raw.r > 8192 || raw.h0 > 8192 || raw.h2 != 0 || raw.d != 0 {
         return None;
     }
-    let axis = match raw.h1 {
-        0 => Axis::X,
-        1 => Axis::Y,
-        2 => Axis::Z,
-        _ => return None,
-    };
+    let axis = Axis::try_from(raw.h1).ok()?;
     let centre = read_centre(raw)?;
     Some(Drum {
         centre,
@@ -119,7 +134,7 @@ fn read_drum(raw: RawSolid) -> Option<Drum>
     })
 }
 
-pub(crate) fn catalogue_bytes(solid: CatalogueSolid) -> [u8; 20]
+fn catalogue_bytes(solid: CatalogueSolid) -> [u8; 20]
     ensures { result ≡ catalogue_record solid }
 {
     raw_bytes(raw_of(solid))
@@ -169,19 +184,9 @@ fn raw_of(solid: CatalogueSolid) -> RawSolid
             y: s.centre.y,
             z: s.centre.z,
             h0: s.half_height,
-            h1: axis_number(s.axis),
+            h1: u16::from(s.axis),
             h2: 0,
             d: 0,
         },
-    }
-}
-
-fn axis_number(axis: Axis) -> u16
-    ensures { result ≡ axis_number axis }
-{
-    match axis {
-        Axis::X => 0,
-        Axis::Y => 1,
-        Axis::Z => 2,
     }
 }

@@ -1,8 +1,12 @@
 // Records of joints.
-ghost use Rattle.std.specs.Prelude.{◌≡◌};
+ghost use Rattle.std.specs.Prelude.{◌≡◌, refl};
+ghost use Rattle.std.proofs.Math.Dec.{lit≤};
+ghost use Rattle.records.specs.Apart.{house_apart, soft_apart};
 ghost use Rattle.records.specs.Joint.{raw_joint_record, house_record, soft_record};
 ghost use Rattle.records.specs.Reads.{Reads};
 
+use crate::bytes::put_bytes;
+use crate::record::Record;
 use joints::house::HouseJoint;
 use joints::radius::Radius;
 use joints::soft::SoftJoint;
@@ -17,36 +21,65 @@ struct RawJoint {
 fn read_raw_joint(bytes: &[u8]) -> Option<RawJoint>
     ensures { Reads raw_joint_record bytes.now result }
 {
-    let [form_low, form_high, k_low, k_high, rest @ ..] = bytes else {
+    let [form_low, form_high, k_low, k_high] = bytes else {
         return None;
     };
-    if !rest.is_empty() {
-        return None;
-    }
     Some(RawJoint {
         form: u16::from_le_bytes([*form_low, *form_high]),
         k: u16::from_le_bytes([*k_low, *k_high]),
     })
 }
 
-pub(crate) fn read_house(bytes: &[u8]) -> Option<HouseJoint>
-    ensures { Reads house_record bytes.now result }
-{
-    let RawJoint { form, k } = read_raw_joint(bytes)?;
-    match form {
-        0 if k == 0 => Some(HouseJoint::Sharp),
-        1 if 1 <= k && k <= 2048 => Some(HouseJoint::Rounded(Radius { k })),
-        _ => None,
+impl Record for HouseJoint {
+    const LENGTH: usize = 4;
+
+    ghost LENGTH = { 4 };
+
+    ghost written = { house_record };
+
+    ghost sized = { λ x. refl };
+
+    ghost apart = { house_apart };
+
+    ghost short = { lit≤ tt };
+
+    fn read(bytes: &[u8]) -> Option<HouseJoint> {
+        let RawJoint { form, k } = read_raw_joint(bytes)?;
+        match form {
+            0 if k == 0 => Some(HouseJoint::Sharp),
+            1 if 1 <= k && k <= 2048 => Some(HouseJoint::Rounded(Radius { k })),
+            _ => None,
+        }
+    }
+
+    fn write(&self, out: &mut [u8]) {
+        put_bytes(&house_bytes(*self), out);
     }
 }
 
-pub(crate) fn read_soft(bytes: &[u8]) -> Option<SoftJoint>
-    ensures { Reads soft_record bytes.now result }
-{
-    let RawJoint { form, k } = read_raw_joint(bytes)?;
-    match form {
-        2 if 1 <= k && k <= 2048 => Some(SoftJoint(Radius { k })),
-        _ => None,
+impl Record for SoftJoint {
+    const LENGTH: usize = 4;
+
+    ghost LENGTH = { 4 };
+
+    ghost written = { soft_record };
+
+    ghost sized = { λ x. refl };
+
+    ghost apart = { soft_apart };
+
+    ghost short = { lit≤ tt };
+
+    fn read(bytes: &[u8]) -> Option<SoftJoint> {
+        let RawJoint { form, k } = read_raw_joint(bytes)?;
+        match form {
+            2 if 1 <= k && k <= 2048 => Some(SoftJoint(Radius { k })),
+            _ => None,
+        }
+    }
+
+    fn write(&self, out: &mut [u8]) {
+        put_bytes(&soft_bytes(*self), out);
     }
 }
 
@@ -58,7 +91,7 @@ fn raw_joint_bytes(joint: RawJoint) -> [u8; 4]
     [form_low, form_high, k_low, k_high]
 }
 
-pub(crate) fn house_bytes(joint: HouseJoint) -> [u8; 4]
+fn house_bytes(joint: HouseJoint) -> [u8; 4]
     ensures { result ≡ house_record joint }
 {
     let fields = match joint {
@@ -68,7 +101,7 @@ pub(crate) fn house_bytes(joint: HouseJoint) -> [u8; 4]
     raw_joint_bytes(fields)
 }
 
-pub(crate) fn soft_bytes(joint: SoftJoint) -> [u8; 4]
+fn soft_bytes(joint: SoftJoint) -> [u8; 4]
     ensures { result ≡ soft_record joint }
 {
     raw_joint_bytes(RawJoint {

@@ -18,15 +18,10 @@ pub trait Make {
     // the make's number in a file's header
     const NUMBER: u16;
 
-    // NUMBER, as clauses name it
-    ghost make: { ℕ };
-
-    // NUMBER, for code that is generic in the make
-    fn make() -> u16
-        ensures { result ≡ make };
+    ghost NUMBER: { ℕ };
 
     // every kind of joint has records of 4 bytes
-    ghost joint_length: { Self.Joint.Record.size ≡ 4 };
+    ghost joint_length: { Self.Joint.LENGTH ≡ 4 };
 }
 
 // Catalogue solids with house joints.
@@ -39,13 +34,9 @@ impl Make for CatalogueMake {
 
     const NUMBER: u16 = 1;
 
-    ghost make = { 1 };
+    ghost NUMBER = { 1 };
 
     ghost joint_length = { refl };
-
-    fn make() -> u16 {
-        Self::NUMBER
-    }
 }
 
 // Probed solids with soft joints.
@@ -58,11 +49,7 @@ impl Make for ProbedMake {
 
     const NUMBER: u16 = 2;
 
-    ghost make = { 2 };
+    ghost NUMBER = { 2 };
 
     ghost joint_length = { refl };
-
-    fn make() -> u16 {
-        Self::NUMBER
-    }
 }

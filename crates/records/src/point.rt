@@ -1,18 +1,22 @@
 // Points in records.
-ghost use Rattle.std.specs.Prelude.{◌≡◌, ◌+◌, ◌≤◌, length};
+ghost use Rattle.std.specs.Prelude.{◌≡◌};
 ghost use Rattle.space.specs.At.{at};
-ghost use Rattle.records.specs.Elements.{elements};
 ghost use Rattle.records.specs.Point.{point_record};
 ghost use Rattle.records.specs.Reads.{Reads};
 
-use crate::bytes::i16_at;
 use space::point::Point;
 
-pub(crate) fn point_at(bytes: &[u8], i: usize) -> Option<Point>
-    requires { i + 6 ≤ length bytes.now }
-    ensures { Reads point_record (elements i 6 bytes.now) result }
+pub(crate) fn read_point(bytes: &[u8]) -> Option<Point>
+    ensures { Reads point_record bytes.now result }
 {
-    point(i16_at(bytes, i), i16_at(bytes, i + 2), i16_at(bytes, i + 4))
+    let [x0, x1, y0, y1, z0, z1] = bytes else {
+        return None;
+    };
+    point(
+        i16::from_le_bytes([*x0, *x1]),
+        i16::from_le_bytes([*y0, *y1]),
+        i16::from_le_bytes([*z0, *z1]),
+    )
 }
 
 pub(crate) fn point(x: i16, y: i16, z: i16) -> Option<Point>

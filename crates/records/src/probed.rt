@@ -1,54 +1,73 @@
 // Records of probed solids.
-ghost use Rattle.std.specs.Prelude.{◌≡◌};
-ghost use Rattle.solids.specs.Unused.{is_origin};
+ghost use Rattle.std.specs.Prelude.{◌≡◌, refl};
+ghost use Rattle.std.proofs.Math.Dec.{lit≤};
+ghost use Rattle.solids.specs.Unused.{all_origin};
+ghost use Rattle.records.specs.Apart.{probed_apart};
 ghost use Rattle.records.specs.Probed.{probed_record};
-ghost use Rattle.records.specs.Reads.{Reads};
 
-use crate::bytes::u16_at;
-use crate::point::{point_at, point_bytes};
+use crate::bytes::put_bytes;
+use crate::point::{point_bytes, read_point};
+use crate::record::Record;
 use solids::probed::Probed;
 use space::point::Point;
 
-pub(crate) fn read_probed(bytes: &[u8]) -> Option<Probed>
-    ensures { Reads probed_record bytes.now result }
-{
-    if bytes.len() != 52 {
-        return None;
-    }
-    let count = u16_at(bytes, 0);
-    let radius = u16_at(bytes, 2);
-    if count < 1 || count > 8 || radius > 1024 {
-        return None;
-    }
-    let mut centres = [Point { x: 0, y: 0, z: 0 }; 8];
-    for i in 0..8 {
-        let centre = point_at(bytes, 4 + 6 * i)?;
-        if i >= count as usize && !is_origin(centre) {
+impl Record for Probed {
+    const LENGTH: usize = 52;
+
+    ghost LENGTH = { 52 };
+
+    ghost written = { probed_record };
+
+    ghost sized = { λ x. refl };
+
+    ghost apart = { probed_apart };
+
+    ghost short = { lit≤ tt };
+
+    fn read(bytes: &[u8]) -> Option<Probed> {
+        let [count_low, count_high, radius_low, radius_high, places @ ..] = bytes else {
+            return None;
+        };
+        if places.len() != 48 {
             return None;
         }
-        centres[i] = centre;
+        let count = u16::from_le_bytes([*count_low, *count_high]);
+        let radius = u16::from_le_bytes([*radius_low, *radius_high]);
+        if count < 1 || count > 8 || radius > 1024 {
+            return None;
+        }
+        let mut centres = [Point::ORIGIN; 8];
+        for (i, place) in places.chunks_exact(6).enumerate() {
+            centres[i] = read_point(place)?;
+        }
+        if !all_origin(&centres[usize::from(count)..]) {
+            return None;
+        }
+        Some(Probed {
+            centres,
+            count: count as u8,
+            radius,
+        })
     }
-    Some(Probed {
-        centres,
-        count: count as u8,
-        radius,
-    })
+
+    fn write(&self, out: &mut [u8]) {
+        put_bytes(&probed_bytes(*self), out);
+    }
 }
 
-fn is_origin(p: Point) -> bool
-    ensures { result ≡ is_origin p }
+// Whether each of these centres is the origin.
+fn all_origin(centres: &[Point]) -> bool
+    ensures { result ≡ all_origin centres.now }
 {
-    p.x == 0 && p.y == 0 && p.z == 0
+    centres.iter().all(|centre| *centre == Point::ORIGIN)
 }
 
-pub(crate) fn probed_bytes(s: Probed) -> [u8; 52]
+fn probed_bytes(s: Probed) -> [u8; 52]
     ensures { result ≡ probed_record s }
 {
     let mut bytes = [0; 52];
-    bytes[0..2].copy_from_slice(&(s.count as u16).to_le_bytes());
+    bytes[0..2].copy_from_slice(&u16::from(s.count).to_le_bytes());
     bytes[2..4].copy_from_slice(&s.radius.to_le_bytes());
-    for i in 0..8 {
-        bytes[4 + 6 * i..10 + 6 * i].copy_from_slice(&point_bytes(s.centres[i]));
-    }
+    bytes[4..].copy_from_slice(s.centres.map(point_bytes).as_flattened());
     bytes
 }

@@ -3,8 +3,6 @@ ghost use Rattle.std.specs.Prelude.{◌≡◌};
 ghost use Rattle.records.specs.Raw.{raw_record};
 ghost use Rattle.records.specs.Reads.{Reads};
 
-use crate::bytes::{i16_at, i32_at, u16_at};
-
 #[derive(Clone, Copy)]
 pub(crate) struct RawSolid {
     pub(crate) kind: u16,
@@ -21,19 +19,41 @@ pub(crate) struct RawSolid {
 pub(crate) fn read_raw(bytes: &[u8]) -> Option<RawSolid>
     ensures { Reads raw_record bytes.now result }
 {
-    if bytes.len() != 20 {
+    let [
+        kind_low,
+        kind_high,
+        r_low,
+        r_high,
+        x_low,
+        x_high,
+        y_low,
+        y_high,
+        z_low,
+        z_high,
+        h0_low,
+        h0_high,
+        h1_low,
+        h1_high,
+        h2_low,
+        h2_high,
+        d0,
+        d1,
+        d2,
+        d3,
+    ] = bytes
+    else {
         return None;
-    }
+    };
     Some(RawSolid {
-        kind: u16_at(bytes, 0),
-        r: u16_at(bytes, 2),
-        x: i16_at(bytes, 4),
-        y: i16_at(bytes, 6),
-        z: i16_at(bytes, 8),
-        h0: u16_at(bytes, 10),
-        h1: u16_at(bytes, 12),
-        h2: u16_at(bytes, 14),
-        d: i32_at(bytes, 16),
+        kind: u16::from_le_bytes([*kind_low, *kind_high]),
+        r: u16::from_le_bytes([*r_low, *r_high]),
+        x: i16::from_le_bytes([*x_low, *x_high]),
+        y: i16::from_le_bytes([*y_low, *y_high]),
+        z: i16::from_le_bytes([*z_low, *z_high]),
+        h0: u16::from_le_bytes([*h0_low, *h0_high]),
+        h1: u16::from_le_bytes([*h1_low, *h1_high]),
+        h2: u16::from_le_bytes([*h2_low, *h2_high]),
+        d: i32::from_le_bytes([*d0, *d1, *d2, *d3]),
     })
 }
 

@@ -1,6 +1,7 @@
 -- A scene whose nodes are a tree is not refused. Assumes nothing.
 use Rattle.std.proofs.Common.{◌≡◌, ℕ, zero, suc, ◌<◌, ◌≤◌, true, not, ◌⊎◌, List, [], ◌∷◌, map, length, get_or, is_some, Some, sym, ap, ◌∙◌, subst, inl, inr, arith}
 use lib.ListN.{length-map}
+use Rattle.records.specs.Format.{Format}
 use Rattle.records.specs.Node.{node_record}
 use Rattle.scene.specs.Lists.{named, all_named}
 use Rattle.scene.specs.Used.{names, all_used}
@@ -49,31 +50,31 @@ each_used (suc s) n l all below = go (and_parts (names s l) (all_used s l) all) 
     go both earlier (inl less) = earlier both.1 less
     go both earlier (inr more) = let same : s ≡ n = omega arith in subst (λ k. names k l ≡ true) same both.0
 
-module _ {S J : Type 0} (make size : ℕ) (solid_record : S → List ℕ) (joint_record : J → List ℕ) (bytes : List ℕ) (rooms : Rooms) (solids : List S) (joints : List J) (nodes : List Node) (scene : SceneOf make size solid_record joint_record bytes rooms solids joints nodes) (fine : TreeFine size bytes nodes) where
-  nodes_pass : (e : Refusal) → NodesCheck size bytes e → ⊥
+module _ {S J : Type 0} (f : Format S J) (bytes : List ℕ) (rooms : Rooms) (solids : List S) (joints : List J) (nodes : List Node) (scene : SceneOf f bytes rooms solids joints nodes) (fine : TreeFine f.size bytes nodes) where
+  nodes_pass : (e : Refusal) → NodesCheck f.size bytes e → ⊥
   nodes_pass e bad =
-      let its = owner node_record (λ x. named (count Solids bytes) (count Joints bytes) (node_symbol x) ≡ true) nodes (row bytes (nodes_start size bytes) 4) (count Nodes bytes) bad.0 fine.nodes_are (each_named (count Solids bytes) (count Joints bytes) nodes fine.all_in) bad.2.within in
+      let its = owner node_record (λ x. named (count Solids bytes) (count Joints bytes) (node_symbol x) ≡ true) nodes (row bytes (nodes_start f.size bytes) 4) (count Nodes bytes) bad.0 fine.nodes_are (each_named (count Solids bytes) (count Joints bytes) nodes fine.all_in) bad.2.within in
       bad.2.here its.0 its.1 its.2
 
-  order_pass : (e : Refusal) → OrderCheck size bytes e → ⊥
+  order_pass : (e : Refusal) → OrderCheck f.size bytes e → ⊥
   order_pass e bad =
       let same = same_nodes bad.0 nodes (bad.1 ∙ sym fine.nodes_are) in
       let fault : order_fault 0 0 (map node_symbol nodes) ≡ Some bad.2.0 = sym (ap (λ l. order_fault 0 0 (map node_symbol l)) same) ∙ bad.2.2 in
       both_ways (in_order (map node_symbol nodes)) (ap (λ o. not (is_some o)) fault) fine.ordered
 
-  unused_pass : (e : Refusal) → UnusedCheck size bytes e → ⊥
+  unused_pass : (e : Refusal) → UnusedCheck f.size bytes e → ⊥
   unused_pass e bad =
       let same = same_nodes bad.0 nodes (bad.1 ∙ sym fine.nodes_are) in
       let n = bad.2.0 in
       both_ways (names n (map node_symbol nodes)) (sym (ap (λ l. names n (map node_symbol l)) same) ∙ bad.2.3) (each_used (count Solids bytes) n (map node_symbol nodes) fine.used bad.2.2)
 
-  pub not_refused : (e : Refusal) → Refused make size solid_record joint_record bytes rooms e → ⊥
-  not_refused e (inl bad) = header_pass make size bytes rooms scene.no_fault e bad
+  pub not_refused : (e : Refusal) → Refused f bytes rooms e → ⊥
+  not_refused e (inl bad) = header_pass f.make f.size bytes rooms scene.no_fault e bad
   not_refused e (inr (_, inl bad)) =
-      let its = owner solid_record (λ x. Unit {0}) solids (row bytes 20 size) (count Solids bytes) bad.0 scene.solids_are (any solids) bad.2.within in
+      let its = owner f.solid (λ x. Unit {0}) solids (row bytes 20 f.size) (count Solids bytes) bad.0 scene.solids_are (any solids) bad.2.within in
       bad.2.here its.0 its.1
   not_refused e (inr (_, inr (_, inl bad))) =
-      let its = owner joint_record (λ x. Unit {0}) joints (row bytes (joints_start size bytes) 4) (count Joints bytes) bad.0 scene.joints_are (any joints) bad.2.within in
+      let its = owner f.joint (λ x. Unit {0}) joints (row bytes (joints_start f.size bytes) 4) (count Joints bytes) bad.0 scene.joints_are (any joints) bad.2.within in
       bad.2.here its.0 its.1
   not_refused e (inr (_, inr (_, inr (_, inl bad)))) = nodes_pass e bad
   not_refused e (inr (_, inr (_, inr (_, inr (_, inl bad))))) = order_pass e bad

@@ -1,5 +1,6 @@
 -- The bytes of a scene file. Assumes nothing.
 use Rattle.std.specs.Prelude.{ℕ, ◌+◌, ◌*◌, List, [], ◌∷◌, ◌++◌, map, length}
+use Rattle.records.specs.Format.{Format}
 use Rattle.records.specs.LittleEndian.{u16_le, u32_le}
 use Rattle.records.specs.Node.{node_record}
 use Rattle.tree.specs.declared.node.Node.{Node}
@@ -16,7 +17,7 @@ header_bytes make size solids joints nodes =
     ++ u32_le 20 ++ u32_le (20 + size * solids) ++ u32_le (20 + size * solids + 4 * joints)
 
 -- the header, then the records of the solids, of the joints and of the nodes
-abbrev pub file_bytes : {S J : Type 0} (make size : ℕ) (solid_record : S → List ℕ) (joint_record : J → List ℕ) (solids : List S) (joints : List J) (nodes : List Node) → List ℕ
-file_bytes make size solid_record joint_record solids joints nodes =
-    header_bytes make size (length solids) (length joints) (length nodes)
-    ++ (concat (map solid_record solids) ++ (concat (map joint_record joints) ++ concat (map node_record nodes)))
+abbrev pub file_bytes : {S J : Type 0} (f : Format S J) (solids : List S) (joints : List J) (nodes : List Node) → List ℕ
+file_bytes f solids joints nodes =
+    header_bytes f.make f.size (length solids) (length joints) (length nodes)
+    ++ (concat (map f.solid solids) ++ (concat (map f.joint joints) ++ concat (map node_record nodes)))

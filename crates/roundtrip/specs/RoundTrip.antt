@@ -1,5 +1,7 @@
 -- Reading and writing a scene file undo each other. Assumes nothing.
 use Rattle.std.specs.Prelude.{◌≡◌, ℕ, ◌<◌, ◌≤◌, true, List, map, length, slice_index}
+use Rattle.records.specs.Format.{Format, format}
+use Rattle.records.specs.declared.record.Record.{Ghosts}
 use Rattle.roundtrip.specs.Bytes.{file_bytes}
 use Rattle.scene.specs.Lists.{all_named}
 use Rattle.scene.specs.Used.{all_used}
@@ -30,23 +32,25 @@ pub record RoomFor (solids joints nodes : ℕ) (rooms : Rooms) : Type 0 where
   pub nodes_room : nodes ≤ rooms.nodes
   pub list_room : nodes ≤ rooms.list
 
-module _ {S J : Type 0} (size : ℕ) (solid_record : S → List ℕ) (joint_record : J → List ℕ) where
+module _ {S J : Type 0} where
+  -- the bytes are a file of this scene, which is not refused and is no other scene's
+  pub record ReadsBack (f : Format S J) (bytes : List ℕ) (rooms : Rooms) (solids : List S) (joints : List J) (nodes : List Node) : Type 0 where
+    pub scene : SceneOf f bytes rooms solids joints nodes
+    pub accepted : (e : Refusal) → Refused f bytes rooms e → ⊥
+    pub no_other :
+        (others : List S) (other_joints : List J) (other_nodes : List Node)
+        → SceneOf f bytes rooms others other_joints other_nodes
+        → (others ≡ solids) × (other_joints ≡ joints) × (other_nodes ≡ nodes)
+
+-- both theorems are of any number that a make may have
+module _ {S J : Type 0} (solid_kind : Ghosts S) (joint_kind : Ghosts J) where
   -- an accepted file, read and written again, has its old bytes
   abbrev pub ReadThenWritten : Type 0
   ReadThenWritten =
       (make : ℕ) (bytes : List ℕ) (rooms : Rooms) (solids : List S) (joints : List J) (nodes : List Node)
       → ((i : ℕ) → slice_index bytes i < 256)
-      → SceneOf make size solid_record joint_record bytes rooms solids joints nodes
-      → file_bytes make size solid_record joint_record solids joints nodes ≡ bytes
-
-  -- the bytes are a file of this scene, which is not refused and is no other scene's
-  pub record ReadsBack (make : ℕ) (bytes : List ℕ) (rooms : Rooms) (solids : List S) (joints : List J) (nodes : List Node) : Type 0 where
-    pub scene : SceneOf make size solid_record joint_record bytes rooms solids joints nodes
-    pub accepted : (e : Refusal) → Refused make size solid_record joint_record bytes rooms e → ⊥
-    pub no_other :
-        (others : List S) (other_joints : List J) (other_nodes : List Node)
-        → SceneOf make size solid_record joint_record bytes rooms others other_joints other_nodes
-        → (others ≡ solids) × (other_joints ≡ joints) × (other_nodes ≡ nodes)
+      → SceneOf (format make solid_kind joint_kind) bytes rooms solids joints nodes
+      → file_bytes (format make solid_kind joint_kind) solids joints nodes ≡ bytes
 
   -- a scene that a file can hold, written and read again, is the same scene
   abbrev pub WrittenThenRead : Type 0
@@ -54,4 +58,4 @@ module _ {S J : Type 0} (size : ℕ) (solid_record : S → List ℕ) (joint_reco
       (make : ℕ) (rooms : Rooms) (solids : List S) (joints : List J) (nodes : List Node)
       → Storable solids joints nodes
       → RoomFor (length solids) (length joints) (length nodes) rooms
-      → ReadsBack make (file_bytes make size solid_record joint_record solids joints nodes) rooms solids joints nodes
+      → ReadsBack (format make solid_kind joint_kind) (file_bytes (format make solid_kind joint_kind) solids joints nodes) rooms solids joints nodes

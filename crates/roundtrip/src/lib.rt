@@ -1,4 +1,4 @@
-// The bytes of a scene file. Each function answers 0; its contract is a theorem for every make of
+// The bytes of a scene file. Each function does nothing; its contract is a theorem for every make of
 // file: reading and writing undo each other.
 #![tactic(auto)]
 
@@ -7,15 +7,11 @@ ghost use Rattle.roundtrip.specs.RoundTrip.{ReadThenWritten, WrittenThenRead};
 use records::make::Make;
 
 // An accepted file, read and written again, has its old bytes.
-pub fn read_then_written<M: Make>() -> u8
-    ensures { ReadThenWritten M.Solid.Record.size M.Solid.Record.written M.Joint.Record.written }
-{
-    0
-}
+pub fn read_then_written<M: Make>()
+    ensures { ReadThenWritten M.Solid.Record M.Joint.Record }
+{}
 
 // A scene that a file can hold, written and read again, is accepted and is the same scene.
-pub fn written_then_read<M: Make>() -> u8
-    ensures { WrittenThenRead M.Solid.Record.size M.Solid.Record.written M.Joint.Record.written }
-{
-    0
-}
+pub fn written_then_read<M: Make>()
+    ensures { WrittenThenRead M.Solid.Record M.Joint.Record }
+{}

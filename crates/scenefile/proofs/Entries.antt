@@ -1,16 +1,9 @@
 -- The whole list entry by entry. Assumes nothing.
-use Rattle.std.proofs.Common.{◌≡◌, ℕ, zero, suc, ◌+◌, ◌<◌, false, List, [], ◌∷◌, ◌++◌, length, get_or, take, drop, set, sym, refl, ap, ◌∙◌, le_of_suc-le-suc, not-suc-le-zero, add-one, arith, drop-cons}
-use lib.Seq.{drop-length}
+use Rattle.std.proofs.Common.{◌≡◌, ℕ, zero, suc, ◌+◌, ◌<◌, List, [], ◌∷◌, ◌++◌, length, get_or, take, drop, set, sym, refl, ap, ◌∙◌, le_of_suc-le-suc, not-suc-le-zero, add-one, arith}
 use Rattle.std.proofs.lemmas.List.{take_more, take_more_set}
-use Rattle.tree.specs.Rows.{cut_next, is_cut_kind, node_entry, whole_entries}
+use Rattle.tree.specs.Rows.{cut_next, node_entry, whole_entries}
 use Rattle.tree.specs.declared.node.Entry.{Entry}
 use Rattle.tree.specs.declared.node.Node.{Node}
-
-pub cut_next_at : (nodes : List Node) (i : ℕ) (d : Node) → i < length nodes → is_cut_kind (get_or nodes i d).kind ≡ cut_next (drop i nodes)
-cut_next_at nodes i d within = sym (ap cut_next (drop-cons nodes i d within))
-
-pub cut_next_end : (nodes : List Node) (i : ℕ) → i ≡ length nodes → false ≡ cut_next (drop i nodes)
-cut_next_end nodes i done = sym (ap (λ k. cut_next (drop k nodes)) done ∙ ap cut_next (drop-length nodes))
 
 pub length_whole : (nodes : List Node) → length (whole_entries nodes) ≡ length nodes
 unfolding whole_entries

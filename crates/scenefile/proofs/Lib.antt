@@ -1,7 +1,7 @@
 pub mod Chains
-pub mod Entries
-pub mod Faults
 pub mod Loads
+pub mod Entries
+pub mod NodeTable
 pub mod Orders
-pub mod Places
+pub mod Walks
 pub mod Readings

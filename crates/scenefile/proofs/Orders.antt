@@ -1,8 +1,7 @@
 -- A node table looked through row by row. Assumes nothing.
-use Rattle.std.proofs.Common.{◌⊎◌, inl, inr, ◌≡◌, ℕ, suc, pred, ◌+◌, ◌-◌, ◌<◌, ◌≤◌, Bool, true, false, cond, ◌||◌, ltb, List, [], ◌∷◌, length, drop, Some, None, Option, sym, refl, ap, ◌∙◌, add-one, arith}
+use Rattle.std.proofs.Common.{◌⊎◌, inl, inr, ◌≡◌, ℕ, suc, pred, ◌+◌, ◌-◌, ◌<◌, ◌≤◌, true, false, cond, ltb, List, [], ◌∷◌, length, drop, Some, None, Option, sym, refl, ap, ◌∙◌, add-one, arith}
 use lib.Seq.{drop-length}
 use Rattle.std.proofs.lemmas.Bool.{lt-ltb, le-ltb, ne_eqb}
-use Rattle.scene.specs.Used.{names, names_it}
 use Rattle.tree.specs.Order.{order_fault}
 use Rattle.tree.specs.Spell.{Symbol, solid, operator, is_solid}
 
@@ -41,13 +40,6 @@ module _ (l : List Symbol) (i : ℕ) (s : Symbol) (here : drop i l ≡ s ∷ dro
     row_on few w' (inl (kind, room, is)) = (ap (λ k. order_fault (i + 1) k (drop (i + 1) l)) is ∙ solid_on kind room, omega arith)
     row_on few w' (inr (kind, both, is)) = (ap (λ k. order_fault (i + 1) k (drop (i + 1) l)) is ∙ operator_on kind both, omega arith)
 
-  -- a symbol that names the solid, or not
-  pub named_here : (n : ℕ) (b : Bool) → names n (drop i l) ≡ b → names_it n s ≡ true → true ≡ b
-  named_here n b now it = sym (ap (names n) here ∙ ap (λ x. x || names n (drop (suc i) l)) it) ∙ now
-
-  pub named_on : (n : ℕ) (b : Bool) → names n (drop i l) ≡ b → names_it n s ≡ false → names n (drop (i + 1) l) ≡ b
-  named_on n b now it = rw add-one (sym (ap (names n) here ∙ ap (λ x. x || names n (drop (suc i) l)) it) ∙ now)
-
 -- at the end of the list
 module _ (l : List Symbol) (i : ℕ) (done : i ≡ length l) where
   none_left : drop i l ≡ []
@@ -60,6 +52,3 @@ module _ (l : List Symbol) (i : ℕ) (done : i ≡ length l) where
   pub end_other : (w : ℕ) (o : Option ℕ) → order_fault i w (drop i l) ≡ o → (w ≡ 1 → ⊥) → Some (length l) ≡ o
   unfolding order_fault
   end_other w o now other = ap Some (sym done) ∙ sym (ap (order_fault i w) none_left ∙ ap (λ b. cond b None (Some i)) (ne_eqb w 1 other)) ∙ now
-
-  pub named_end : (n : ℕ) (b : Bool) → names n (drop i l) ≡ b → false ≡ b
-  named_end n b now = sym (ap (names n) none_left) ∙ now

@@ -1,5 +1,6 @@
 -- How a scene file is refused, and what it holds where it is not. Assumes nothing.
 use Rattle.std.specs.Prelude.{◌≡◌, ℕ, ◌<◌, true, false, ◌⊎◌, List, map, Some, None, ◌≢◌}
+use Rattle.records.specs.Format.{Format}
 use Rattle.records.specs.Node.{node_record}
 use Rattle.scene.specs.Lists.{named, all_named}
 use Rattle.scene.specs.Used.{names, all_used}
@@ -35,18 +36,18 @@ joint_rows size bytes = rows bytes (joints_start size bytes) 4 (count Joints byt
 abbrev pub node_rows : ℕ → List ℕ → List (List ℕ)
 node_rows size bytes = rows bytes (nodes_start size bytes) 4 (count Nodes bytes)
 
-module _ {X : Type 0} (size : ℕ) (written : X → List ℕ) (bytes : List ℕ) where
+module _ {S J : Type 0} (f : Format S J) (bytes : List ℕ) where
   -- the first record of a table that nobody has
   abbrev pub SolidsCheck : Refusal → Type 0
-  SolidsCheck e = (n : ℕ) × (e ≡ refusal.Solid n) × First (λ i. Nobodys written (row bytes solids_start size i)) (count Solids bytes) n
+  SolidsCheck e = (n : ℕ) × (e ≡ refusal.Solid n) × First (λ i. Nobodys f.solid (row bytes solids_start f.size i)) (count Solids bytes) n
 
   abbrev pub JointsCheck : Refusal → Type 0
-  JointsCheck e = (n : ℕ) × (e ≡ refusal.Joint n) × First (λ i. Nobodys written (row bytes (joints_start size bytes) 4 i)) (count Joints bytes) n
+  JointsCheck e = (n : ℕ) × (e ≡ refusal.Joint n) × First (λ i. Nobodys f.joint (row bytes (joints_start f.size bytes) 4 i)) (count Joints bytes) n
 
--- every solid record and every joint record is somebody's
-pub record RowsFine {S J : Type 0} (size : ℕ) (solid_record : S → List ℕ) (joint_record : J → List ℕ) (bytes : List ℕ) : Type 0 where
-  pub solids_good : (k : ℕ) → k < count Solids bytes → Nobodys solid_record (row bytes solids_start size k) → ⊥
-  pub joints_good : (k : ℕ) → k < count Joints bytes → Nobodys joint_record (row bytes (joints_start size bytes) 4 k) → ⊥
+  -- every solid record and every joint record is somebody's
+  pub record RowsFine : Type 0 where
+    pub solids_good : (k : ℕ) → k < count Solids bytes → Nobodys f.solid (row bytes solids_start f.size k) → ⊥
+    pub joints_good : (k : ℕ) → k < count Joints bytes → Nobodys f.joint (row bytes (joints_start f.size bytes) 4 k) → ⊥
 
 module _ (size : ℕ) (bytes : List ℕ) where
   abbrev pub NodesCheck : Refusal → Type 0
@@ -67,24 +68,24 @@ module _ (size : ℕ) (bytes : List ℕ) where
     pub ordered : in_order (map node_symbol nodes) ≡ true
     pub used : all_used (count Solids bytes) (map node_symbol nodes) ≡ true
 
-module _ {S J : Type 0} (make size : ℕ) (solid_record : S → List ℕ) (joint_record : J → List ℕ) (bytes : List ℕ) (rooms : Rooms) where
+module _ {S J : Type 0} (f : Format S J) (bytes : List ℕ) (rooms : Rooms) where
   abbrev pub HeaderCheck : Refusal → Type 0
-  HeaderCheck e = header_fault make size bytes rooms ≡ Some e
+  HeaderCheck e = header_fault f.make f.size bytes rooms ≡ Some e
 
   -- the checks run in rising number, and the first that refuses counts
   abbrev pub Refused : Refusal → Type 0
   Refused =
       HeaderCheck
-      ▸ SolidsCheck size solid_record bytes
-      ▸ JointsCheck size joint_record bytes
-      ▸ NodesCheck size bytes
-      ▸ OrderCheck size bytes
-      ▸ UnusedCheck size bytes
+      ▸ SolidsCheck f bytes
+      ▸ JointsCheck f bytes
+      ▸ NodesCheck f.size bytes
+      ▸ OrderCheck f.size bytes
+      ▸ UnusedCheck f.size bytes
 
   -- no check refuses, and these are the counts and the nodes
   pub record Checked (c : Counts) (nodes : List Node) : Type 0 where
-    pub no_fault : header_fault make size bytes rooms ≡ None
+    pub no_fault : header_fault f.make f.size bytes rooms ≡ None
     pub counted : Counted bytes c
-    pub roomy : Roomy size bytes rooms c
-    pub rows_fine : RowsFine size solid_record joint_record bytes
-    pub tree_fine : TreeFine size bytes nodes
+    pub roomy : Roomy f.size bytes rooms c
+    pub rows_fine : RowsFine f bytes
+    pub tree_fine : TreeFine f.size bytes nodes

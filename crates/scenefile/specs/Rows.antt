@@ -2,6 +2,10 @@
 use Rattle.std.specs.Prelude.{ℕ, ◌+◌, ◌*◌, ◌<◌, List, map, take, drop, ◌≢◌}
 use Rattle.std.specs.List.{range_with_len}
 
+-- the bytes from a place on, `len` of them
+abbrev pub part : ℕ → ℕ → List ℕ → List ℕ
+part start len bytes = take len (drop start bytes)
+
 -- record i of a table that begins at `start` and has records of `size` bytes
 abbrev pub row : List ℕ → ℕ → ℕ → ℕ → List ℕ
 row bytes start size i = take size (drop (start + size * i) bytes)

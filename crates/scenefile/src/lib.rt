@@ -3,6 +3,7 @@
 
 mod check;
 pub mod counts;
+mod file;
 mod header;
 pub mod load;
 pub mod make_number;

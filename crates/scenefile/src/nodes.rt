@@ -1,12 +1,12 @@
 // The node table of a scene file.
-ghost use Rattle.std.specs.Prelude.{◌≡◌, ℕ, ◌+◌, ◌*◌, ◌<◌, ◌≤◌, true, map, length, take, drop, MatchOption};
+ghost use Rattle.std.specs.Prelude.{◌≡◌, ℕ, ◌*◌, ◌<◌, ◌≤◌, true, map, length, take, drop, MatchOption};
 ghost use Rattle.records.specs.Node.{node_record};
 ghost use Rattle.scene.specs.Lists.{named, all_named};
 ghost use Rattle.scenefile.specs.Checks.{NoNode};
 ghost use Rattle.scenefile.specs.Rows.{row, rows, First};
 ghost use Rattle.tree.specs.Rows.{node_symbol};
 
-use crate::rows::read_row;
+use records::record::Record;
 use tree::node::{Node, NodeKind};
 
 // Whether a node names a solid or a joint of the tables.
@@ -14,52 +14,36 @@ fn is_within(node: Node, solids: usize, joints: usize) -> bool
     ensures { result ≡ named solids joints (node_symbol node) }
 {
     match node.kind {
-        NodeKind::Solid => (node.number as usize) < solids,
-        _ => (node.number as usize) < joints,
+        NodeKind::Solid => usize::from(node.number) < solids,
+        _ => usize::from(node.number) < joints,
     }
 }
 
-// Record i of n, where it is that of a node which names a solid or a joint of the tables.
-fn read_within(
-    bytes: &[u8],
-    start: usize,
-    n: usize,
-    i: usize,
-    solids: usize,
-    joints: usize,
-) -> Option<Node>
-    requires inside { start + 4 * n ≤ length bytes.now }
-    requires below { i < n }
-    ensures { MatchOption result (NoNode solids joints (row bytes.now start 4 i)) (λ x. (node_record x ≡ row bytes.now start 4 i) × (named solids joints (node_symbol x) ≡ true)) }
+// The node that a record is of, where it names a solid or a joint of the tables.
+fn read_within(record: &[u8], solids: usize, joints: usize) -> Option<Node>
+    ensures { MatchOption result (NoNode solids joints record.now) (λ x. (node_record x ≡ record.now) × (named solids joints (node_symbol x) ≡ true)) }
 {
-    match read_row::<Node>(bytes, start, n, i) {
-        Some(node) => {
-            if is_within(node, solids, joints) {
-                Some(node)
-            } else {
-                None
-            }
-        }
-        None => None,
+    let node = Node::read(record)?;
+    if is_within(node, solids, joints) {
+        Some(node)
+    } else {
+        None
     }
 }
 
-// Reads n nodes into the front of a table, or answers the place of the first that is none.
+// Reads a table's nodes, or answers the place of the first record that is none's.
 pub(crate) fn read_nodes(
-    bytes: &[u8],
-    start: usize,
-    n: usize,
+    table: &[u8],
     solids: usize,
     joints: usize,
-    table: &mut [Node],
+    into: &mut [Node],
 ) -> Option<usize>
-    requires inside { start + 4 * n ≤ length bytes.now }
-    requires room { n ≤ length table.old }
-    ensures { MatchOption result ((map node_record (take n table.new) ≡ rows bytes.now start 4 n) × (all_named solids joints (map node_symbol (take n table.new)) ≡ true) × ((k : ℕ) → k < n → NoNode solids joints (row bytes.now start 4 k) → ⊥)) (λ i. First (λ k. NoNode solids joints (row bytes.now start 4 k)) n i) }
+    requires { length table.now ≡ 4 * length into.old }
+    ensures { MatchOption result ((map node_record into.new ≡ rows table.now 0 4 (length into.old)) × (all_named solids joints (map node_symbol into.new) ≡ true) × ((k : ℕ) → k < length into.old → NoNode solids joints (row table.now 0 4 k) → ⊥)) (λ i. First (λ k. NoNode solids joints (row table.now 0 4 k)) (length into.old) i) }
 {
-    for i in 0..n {
-        match read_within(bytes, start, n, i, solids, joints) {
-            Some(node) => table[i] = node,
+    for (i, record) in table.chunks_exact(Node::LENGTH).enumerate() {
+        match read_within(record, solids, joints) {
+            Some(node) => into[i] = node,
             None => return Some(i),
         }
     }

@@ -45,7 +45,7 @@ fn is_named(node: Node, solid: usize) -> bool
     ensures { result ≡ names_it solid (node_symbol node) }
 {
     match node.kind {
-        NodeKind::Solid => node.number as usize == solid,
+        NodeKind::Solid => usize::from(node.number) == solid,
         _ => false,
     }
 }
@@ -54,22 +54,12 @@ fn is_named(node: Node, solid: usize) -> bool
 fn some_named(nodes: &[Node], solid: usize) -> bool
     ensures { result ≡ names solid (map node_symbol nodes.now) }
 {
-    for node in nodes {
-        if is_named(*node, solid) {
-            return true;
-        }
-    }
-    false
+    nodes.iter().any(|node| is_named(*node, solid))
 }
 
 // A solid that no node names, where there is one.
 pub(crate) fn find_unused(nodes: &[Node], solids: usize) -> Option<usize>
     ensures { MatchOption result (all_used solids (map node_symbol nodes.now) ≡ true) (λ s. (s < solids) × (names s (map node_symbol nodes.now) ≡ false)) }
 {
-    for s in 0..solids {
-        if !some_named(nodes, s) {
-            return Some(s);
-        }
-    }
-    None
+    (0..solids).find(|solid| !some_named(nodes, *solid))
 }

@@ -1,46 +1,40 @@
-// The tables of a scene file, row by row, for every kind of row.
-ghost use Rattle.std.specs.Prelude.{◌≡◌, ℕ, ◌+◌, ◌*◌, ◌^◌, ◌<◌, ◌≤◌, map, length, take, drop, MatchOption};
-ghost use Rattle.records.specs.Reads.{Reads};
+// The tables of a scene file, row by row, for every kind of row. A kind's records may have no bytes, and
+// then `chunks_exact` may not cut them: each loop takes its record off the front of what is left.
+ghost use Rattle.std.specs.Prelude.{◌≡◌, ℕ, ◌*◌, ◌<◌, ◌≤◌, map, length, take, drop, MatchOption};
 ghost use Rattle.scenefile.specs.Rows.{row, rows, First, Nobodys};
 
 use records::record::Record;
 
-// Record i of n.
-pub(crate) fn read_row<R: Record>(bytes: &[u8], start: usize, n: usize, i: usize) -> Option<R>
-    requires inside { start + R.size * n ≤ length bytes.now }
-    requires below { i < n }
-    ensures { Reads R.written (row bytes.now start R.size i) result }
+// The place of the first of a table's n records that is nobody's.
+pub(crate) fn first_bad<R: Record + Drop>(table: &[u8], n: usize) -> Option<usize>
+    requires { length table.now ≡ R.LENGTH * n }
+    ensures { MatchOption result ((k : ℕ) → k < n → Nobodys R.written (row table.now 0 R.LENGTH k) → ⊥) (λ i. First (λ k. Nobodys R.written (row table.now 0 R.LENGTH k)) n i) }
 {
-    let size = R::size();
-    let at = start + size * i;
-    R::read(&bytes[at..at + size])
-}
-
-// The place of the first of n records that is nobody's.
-pub(crate) fn first_bad<R: Record + Drop>(bytes: &[u8], start: usize, n: usize) -> Option<usize>
-    requires { start + R.size * n ≤ length bytes.now }
-    ensures { MatchOption result ((k : ℕ) → k < n → Nobodys R.written (row bytes.now start R.size k) → ⊥) (λ i. First (λ k. Nobodys R.written (row bytes.now start R.size k)) n i) }
-{
+    let mut rest = table;
     for i in 0..n {
-        if read_row::<R>(bytes, start, n, i).is_none() {
+        let (record, after) = rest.split_at(R::LENGTH);
+        if R::read(record).is_none() {
             return Some(i);
         }
+        rest = after;
     }
     None
 }
 
-// Reads n records, none of which is nobody's, into the front of a table.
-pub(crate) fn fill<R: Record + Copy>(bytes: &[u8], start: usize, n: usize, table: &mut [R])
-    requires inside { start + R.size * n ≤ length bytes.now }
-    requires room { n ≤ length table.old }
-    requires good { (k : ℕ) → k < n → Nobodys R.written (row bytes.now start R.size k) → ⊥ }
-    ensures front { map R.written (take n table.new) ≡ rows bytes.now start R.size n }
-    ensures rest { drop n table.new ≡ drop n table.old }
+// Reads a table's n records, none of which is nobody's, into the front of a table of rows.
+pub(crate) fn fill<R: Record + Copy>(table: &[u8], n: usize, into: &mut [R])
+    requires long { length table.now ≡ R.LENGTH * n }
+    requires room { n ≤ length into.old }
+    requires good { (k : ℕ) → k < n → Nobodys R.written (row table.now 0 R.LENGTH k) → ⊥ }
+    ensures front { map R.written (take n into.new) ≡ rows table.now 0 R.LENGTH n }
+    ensures rest { drop n into.new ≡ drop n into.old }
 {
-    for i in 0..n {
-        match read_row(bytes, start, n, i) {
-            Some(x) => table[i] = x,
-            None => {}
+    let mut rest = table;
+    for place in into[..n].iter_mut() {
+        let (record, after) = rest.split_at(R::LENGTH);
+        if let Some(read) = R::read(record) {
+            *place = read;
         }
+        rest = after;
     }
 }

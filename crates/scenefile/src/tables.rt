@@ -1,4 +1,5 @@
-// The tables that a caller lends to hold a scene.
+// The tables that a caller lends to hold a scene. This file holds the types alone, so that the specs can
+// name them.
 use space::refusal::Refusal;
 use tree::node::{Entry, Node};
 

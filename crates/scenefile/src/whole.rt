@@ -15,11 +15,7 @@ fn cut_after(nodes: &[Node], i: usize) -> bool
     requires { i < length nodes.now }
     ensures { result ≡ cut_next (drop (i + 1) nodes.now) }
 {
-    if i + 1 < nodes.len() {
-        is_cut(nodes[i + 1])
-    } else {
-        false
-    }
+    nodes.get(i + 1).is_some_and(|next| is_cut(*next))
 }
 
 // A node's entry: a cut becomes a common, and the second operand of a cut, which the cut follows, is
@@ -45,7 +41,7 @@ pub(crate) fn write_whole(nodes: &[Node], list: &mut [Entry])
     ensures front { take (length nodes.now) list.new ≡ whole_entries nodes.now }
     ensures rest { drop (length nodes.now) list.new ≡ drop (length nodes.now) list.old }
 {
-    for i in 0..nodes.len() {
-        list[i] = entry_of(nodes[i], cut_after(nodes, i));
+    for (i, node) in nodes.iter().enumerate() {
+        list[i] = entry_of(*node, cut_after(nodes, i));
     }
 }

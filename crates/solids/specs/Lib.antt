@@ -13,3 +13,4 @@ pub mod Bounds
 pub mod Drums
 pub mod Planes
 pub mod Probes
+pub mod AxisNumber

@@ -1,6 +1,7 @@
 // Solids: what one means, and the kinds in use.
 #![tactic(auto)]
 
+pub mod axis;
 pub mod catalogue;
 mod distances;
 pub mod kinds;

@@ -12,3 +12,4 @@ pub mod Tree
 pub mod Twins
 pub mod ValueLaw
 pub mod Whole
+pub mod KindNumber

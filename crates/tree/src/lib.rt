@@ -12,6 +12,7 @@ ghost use Rattle.tree.specs.ValueLaw.{OperatorsLaw, ValueLaw};
 ghost use Rattle.tree.specs.Whole.{WholeLaw};
 
 pub mod node;
+pub mod node_kind;
 
 // A list has no fault exactly when it spells a tree of depth 64 at most, and it spells one tree only.
 pub fn order_law()

@@ -1,6 +1,6 @@
 // The rows of a node table and of a list.
 
-#[derive(Clone, Copy)]
+#[derive(Clone, Copy, PartialEq, Eq, Debug)]
 pub enum NodeKind {
     Solid,
     Union,
@@ -9,7 +9,7 @@ pub enum NodeKind {
 }
 
 // A row of a scene's node table. Nodes stand in post-order: both operands, then the operator.
-#[derive(Clone, Copy)]
+#[derive(Clone, Copy, PartialEq, Eq, Debug)]
 pub struct Node {
     pub kind: NodeKind,
     // whether the node hands up its raw value negated
@@ -19,20 +19,20 @@ pub struct Node {
 }
 
 // The operators of a list.
-#[derive(Clone, Copy)]
+#[derive(Clone, Copy, PartialEq, Eq, Debug)]
 pub enum Blend {
     Union,
     Common,
 }
 
-#[derive(Clone, Copy)]
+#[derive(Clone, Copy, PartialEq, Eq, Debug)]
 pub enum EntryKind {
     Solid,
     Operator(Blend),
 }
 
 // A row of a list that is evaluated: a node, with no cut among the kinds.
-#[derive(Clone, Copy)]
+#[derive(Clone, Copy, PartialEq, Eq, Debug)]
 pub struct Entry {
     pub kind: EntryKind,
     pub turned: bool,

@@ -1,5 +1,5 @@
 -- Bytes laid one after another over the front of an output. Assumes nothing.
-use Rattle.std.proofs.Common.{◌≡◌, ℕ, ◌+◌, ◌-◌, ◌*◌, ◌<◌, ◌≤◌, List, [], ◌∷◌, ◌++◌, map, length, get_or, take, drop, sym, refl, ap, ◌∙◌, ap₂, append_assoc, append-nil, mul-le-mul_left, mul-zero, mul-suc, arith, length-append, length-drop, take-append-drop, length-take, take_all, drop-drop, take_at, drop_at}
+use Rattle.std.proofs.Common.{◌≡◌, ℕ, ◌+◌, ◌-◌, ◌*◌, ◌<◌, ◌≤◌, List, [], ◌∷◌, ◌++◌, map, length, get_or, take, drop, sym, refl, ap, ◌∙◌, ap₂, append_assoc, append-nil, mul-le-mul_left, mul-zero, mul-suc, arith, length-append, length-drop, length-take, take_all, drop-drop, take_at, drop_at}
 use borrow.Rule.Slice.PartMut.{put_mid, Post-is}
 use lib.Seq.{drop-length}
 use Rattle.roundtrip.specs.Bytes.{concat}
@@ -10,9 +10,6 @@ use Rattle.records.specs.Put.{put}
 -- the front of an output is `front`, and the rest is as it was
 abbrev pub Laid : List ℕ → List ℕ → List ℕ → Type 0
 Laid front was out = out ≡ front ++ drop (length front) was
-
-pub laid_none : (was : List ℕ) → Laid [] was was
-laid_none was = refl
 
 put_fits : (bytes out : List ℕ) → length bytes ≤ length out → put bytes out ≡ bytes ++ drop (length bytes) out
 put_fits bytes out h = rw (le-leb (length bytes) (length out) h)
@@ -64,11 +61,6 @@ module _ {R : Type 0} (written : R → List ℕ) (size : ℕ) (sized : (x : R) �
         ap (λ l. take start was ++ concat (map written l)) (take_more rows i x within ∙ ap (λ y. take i rows ++ (y ∷ [])) (sym is))
         ∙ ap (λ l. take start was ++ l) (concat_push (take i rows) x)
         ∙ sym (append_assoc (take start was) (concat (map written (take i rows))) (written x))
-
-    pub rows_none : Laid (front 0) was was
-    rows_none =
-        let len : length (front 0) ≡ start = front_length 0 (omega arith) ∙ omega (arith, mul-zero size) in
-        sym (take-append-drop start was) ∙ ap₂ ◌++◌ (sym (append-nil (take start was))) (ap (λ k. drop k was) (sym len))
 
     pub rows_more : (i : ℕ) (x : R) (out part : List ℕ) (at : ℕ) → at ≡ start + size * i → i < length rows → x ≡ get_or rows i x → length out ≡ length was → Laid (front i) was out → part ≡ put (written x) (drop at out) → Laid (front (i + 1)) was (put_mid at (length out - at) out part)
     rows_more i x out part at at_is within is long so_far put_is =

@@ -1,5 +1,4 @@
 pub mod Again
-pub mod Digits
 pub mod Files
 pub mod Laying
 pub mod Outputs

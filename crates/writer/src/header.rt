@@ -13,32 +13,16 @@ pub(crate) fn header(
 ) -> [u8; 20]
     ensures { result ≡ u16_le make ++ u16_le solids ++ u16_le joints ++ u16_le nodes ++ u32_le 20 ++ u32_le joints_start ++ u32_le nodes_start }
 {
-    let [make_low, make_high] = make.to_le_bytes();
-    let [solids_low, solids_high] = solids.to_le_bytes();
-    let [joints_low, joints_high] = joints.to_le_bytes();
-    let [nodes_low, nodes_high] = nodes.to_le_bytes();
-    let [j0, j1, j2, j3] = joints_start.to_le_bytes();
-    let [n0, n1, n2, n3] = nodes_start.to_le_bytes();
-    [
-        make_low,
-        make_high,
-        solids_low,
-        solids_high,
-        joints_low,
-        joints_high,
-        nodes_low,
-        nodes_high,
-        20,
-        0,
-        0,
-        0,
-        j0,
-        j1,
-        j2,
-        j3,
-        n0,
-        n1,
-        n2,
-        n3,
-    ]
+    let mut head = [0; 20];
+    head[..8].copy_from_slice(
+        [make, solids, joints, nodes]
+            .map(u16::to_le_bytes)
+            .as_flattened(),
+    );
+    head[8..].copy_from_slice(
+        [20, joints_start, nodes_start]
+            .map(u32::to_le_bytes)
+            .as_flattened(),
+    );
+    head
 }

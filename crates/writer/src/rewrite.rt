@@ -1,40 +1,53 @@
 // A file read and written back.
-ghost use Rattle.std.specs.Prelude.{◌≡◌, length};
+ghost use Rattle.std.specs.Prelude.{◌≡◌, ◌≤◌, length, take};
+ghost use Rattle.records.specs.Format.{format};
+ghost use Rattle.roundtrip.specs.RoundTrip.{Storable};
+ghost use Rattle.scenefile.specs.Load.{held, rooms_of, SameTables};
+ghost use Rattle.tree.specs.Rows.{whole_entries};
 ghost use Rattle.writer.specs.Rewrite.{Rewritten, RewrittenByTables};
 
 use crate::write::write;
 use records::make::Make;
 use scene::scene::Scene;
+use scenefile::counts::Counts;
 use scenefile::load::load;
+use scenefile::tables::Tables;
 use space::refusal::Refusal;
-use tree::node::{Entry, Node};
+
+// The scene in the fronts of tables.
+fn scene_of<'t, S, J>(tables: &'t Tables<'_, S, J>, counts: Counts) -> Scene<'t, S, J>
+    requires room { (counts.solids ≤ length tables.now.solids.now) × (counts.joints ≤ length tables.now.joints.now) × (counts.nodes ≤ length tables.now.nodes.now) × (counts.nodes ≤ length tables.now.list.now) }
+    requires fine { Storable (take counts.solids tables.now.solids.now) (take counts.joints tables.now.joints.now) (take counts.nodes tables.now.nodes.now) }
+    requires whole { take counts.nodes tables.now.list.now ≡ whole_entries (take counts.nodes tables.now.nodes.now) }
+    ensures solids { result.solids.now ≡ take counts.solids tables.now.solids.now }
+    ensures joints { result.joints.now ≡ take counts.joints tables.now.joints.now }
+    ensures nodes { result.nodes.now ≡ take counts.nodes tables.now.nodes.now }
+{
+    let solids = &*tables.solids;
+    let joints = &*tables.joints;
+    let nodes = &*tables.nodes;
+    let list = &*tables.list;
+    let n = counts.nodes;
+    Scene {
+        solids: &solids[..counts.solids],
+        joints: &joints[..counts.joints],
+        nodes: &nodes[..n],
+        list: &list[..n],
+    }
+}
 
 // Loads a scene file into the tables and writes it over the front of an output: an accepted file has its
 // old bytes there. A refused file leaves tables and output alone.
 pub fn rewrite<M: Make>(
     bytes: &[u8],
-    solids: &mut [M::Solid],
-    joints: &mut [M::Joint],
-    nodes: &mut [Node],
-    list: &mut [Entry],
+    tables: &mut Tables<'_, M::Solid, M::Joint>,
     out: &mut [u8],
 ) -> Result<usize, Refusal>
-    ensures output { Rewritten M.make M.Solid.Record.size M.Solid.Record.written M.Joint.Record.written bytes.now (record { solids = length solids.old; joints = length joints.old; nodes = length nodes.old; list = length list.old }) out.old out.new result }
-    ensures tables { RewrittenByTables M.make M.Solid.Record.size M.Solid.Record.written M.Joint.Record.written bytes.now (record { solids = solids.old; joints = joints.old; nodes = nodes.old; list = list.old }) (record { solids = solids.new; joints = joints.new; nodes = nodes.new; list = list.new }) out.old out.new result }
+    ensures output { Rewritten (format M.NUMBER M.Solid.Record M.Joint.Record) bytes.now (rooms_of (held tables.old)) out.old out.new result }
+    ensures tables { RewrittenByTables (format M.NUMBER M.Solid.Record M.Joint.Record) bytes.now (held tables.old) (held tables.new) out.old out.new result }
+    ensures same { SameTables tables.old tables.new }
 {
-    match load::<M>(bytes, solids, joints, nodes, list) {
-        Ok(counts) => {
-            let s = counts.solids;
-            let j = counts.joints;
-            let n = counts.nodes;
-            let scene = Scene {
-                solids: &solids[0..s],
-                joints: &joints[0..j],
-                nodes: &nodes[0..n],
-                list: &list[0..n],
-            };
-            write::<M>(&scene, out)
-        }
-        Err(refusal) => Err(refusal),
-    }
+    let counts = load::<M>(bytes, tables)?;
+    let scene = scene_of(tables, counts);
+    write::<M>(&scene, out)
 }

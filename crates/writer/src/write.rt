@@ -1,5 +1,6 @@
 // Writing a scene back as the file that it is.
 ghost use Rattle.std.specs.Prelude.{◌≡◌, length};
+ghost use Rattle.records.specs.Format.{format};
 ghost use Rattle.records.specs.Put.{put};
 ghost use Rattle.roundtrip.specs.Bytes.{file_bytes};
 ghost use Rattle.roundtrip.specs.RoundTrip.{RoomFor, ReadsBack};
@@ -20,11 +21,11 @@ pub fn write<M: Make>(
     scene: &Scene<'_, M::Solid, M::Joint>,
     out: &mut [u8],
 ) -> Result<usize, Refusal>
-    ensures answer { result ≡ written_length (file_bytes M.make M.Solid.Record.size M.Solid.Record.written M.Joint.Record.written scene.now.solids.now scene.now.joints.now scene.now.nodes.now) out.old }
-    ensures after { out.new ≡ put (file_bytes M.make M.Solid.Record.size M.Solid.Record.written M.Joint.Record.written scene.now.solids.now scene.now.joints.now scene.now.nodes.now) out.old }
-    ensures again { (rooms : Rooms) → RoomFor (length scene.now.solids.now) (length scene.now.joints.now) (length scene.now.nodes.now) rooms → ReadsBack M.Solid.Record.size M.Solid.Record.written M.Joint.Record.written M.make (file_bytes M.make M.Solid.Record.size M.Solid.Record.written M.Joint.Record.written scene.now.solids.now scene.now.joints.now scene.now.nodes.now) rooms scene.now.solids.now scene.now.joints.now scene.now.nodes.now }
+    ensures answer { result ≡ written_length (file_bytes (format M.NUMBER M.Solid.Record M.Joint.Record) scene.now.solids.now scene.now.joints.now scene.now.nodes.now) out.old }
+    ensures after { out.new ≡ put (file_bytes (format M.NUMBER M.Solid.Record M.Joint.Record) scene.now.solids.now scene.now.joints.now scene.now.nodes.now) out.old }
+    ensures again { (rooms : Rooms) → RoomFor (length scene.now.solids.now) (length scene.now.joints.now) (length scene.now.nodes.now) rooms → ReadsBack (format M.NUMBER M.Solid.Record M.Joint.Record) (file_bytes (format M.NUMBER M.Solid.Record M.Joint.Record) scene.now.solids.now scene.now.joints.now scene.now.nodes.now) rooms scene.now.solids.now scene.now.joints.now scene.now.nodes.now }
 {
-    let size = M::Solid::size();
+    let size = M::Solid::LENGTH;
     let solids = scene.solids.len();
     let joints = scene.joints.len();
     let nodes = scene.nodes.len();
@@ -35,7 +36,7 @@ pub fn write<M: Make>(
         return Err(Refusal::Output);
     }
     let head = header(
-        M::make(),
+        M::NUMBER,
         solids as u16,
         joints as u16,
         nodes as u16,

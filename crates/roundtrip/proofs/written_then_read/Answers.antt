@@ -4,6 +4,6 @@ use Rattle.std.proofs.Common.{◌∙◌}
 
 pub returns : goal.returns
 returns g c =
-    let S = g.M.Solid.Record in
-    let J = g.M.Joint.Record in
-    written_then_read S.size S.written J.written g.met.M.Solid.Record.sized (λ x. g.met.M.Joint.Record.sized x ∙ g.met.M.Make.joint_length) g.met.M.Solid.Record.apart g.met.M.Joint.Record.apart
+    let S = g.met.M.Solid.Record in
+    let J = g.met.M.Joint.Record in
+    written_then_read g.M.Solid.Record g.M.Joint.Record S.sized (λ x. J.sized x ∙ g.met.M.Make.joint_length) S.apart J.apart

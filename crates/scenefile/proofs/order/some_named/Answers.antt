@@ -1,32 +1,17 @@
-use Rattle.std.proofs.Common.{◌≡◌, false, map, length, get_or, sym, ◌∙◌, arith}
-use Rattle.scene.proofs.Loops.{symbol_here}
-use Rattle.scene.specs.Used.{names}
-use Rattle.std.proofs.lemmas.List.{length-map}
+use Rattle.std.proofs.Common.{◌≡◌, ℕ, ◌||◌, List, [], ◌∷◌, map, refl, ap, ◌∙◌, rules, tests}
+use Rattle.std.specs.List.{list_any}
+use Rattle.std.proofs.lemmas.Iterator.{YieldsList-from_slice}
+use Rattle.std.proofs.lemmas.Iterator.Search.{any_from_yields_List}
+use Rattle.scene.specs.Used.{names, names_it}
 use Rattle.tree.specs.Rows.{node_symbol}
 use Rattle.tree.specs.declared.node.Node.{Node}
-use Rattle.tree.specs.declared.node.NodeKind.TheVariants.{Solid}
-use Rattle.scenefile.proofs.Orders.{named_here, named_on, named_end}
 use Rattle.scenefile.proofs.order.some_named.Goals as goal
 
-pub returns-then-is_named : goal.returns-then-is_named
-returns-then-is_named c =
-    let xs = c.args.nodes.now in
-    let i = c.loop-node.node-index in
-    let d : Node = record { kind = Solid; turned = false; number = 0 } in
-    named_here (map node_symbol xs) i (node_symbol (get_or xs i d)) (symbol_here node_symbol xs i d c.loop-node-test.true) c.args.solid (names c.args.solid (map node_symbol xs)) c.loop-node.invariant
-    (sym c.is_named.ensures ∙ c.if-is_named.true)
-
-pub loop-node-preserved : goal.loop-node-preserved
-loop-node-preserved c =
-    let xs = c.args.nodes.now in
-    let i = c.loop-node.node-index in
-    let d : Node = record { kind = Solid; turned = false; number = 0 } in
-    named_on (map node_symbol xs) i (node_symbol (get_or xs i d)) (symbol_here node_symbol xs i d c.loop-node-test.true) c.args.solid (names c.args.solid (map node_symbol xs)) c.loop-node.invariant
-    (sym c.is_named.ensures ∙ c.if-is_named.false)
+any_is : (solid : ℕ) (nodes : List Node) → list_any (λ x. names_it solid (node_symbol x)) nodes ≡ names solid (map node_symbol nodes)
+any_is solid [] = refl
+any_is solid (x ∷ nodes) = ap (λ b. names_it solid (node_symbol x) || b) (any_is solid nodes)
 
 pub returns : goal.returns
 returns c =
-    let xs = c.args.nodes.now in
-    let i = c.loop-node.node-index in
-    let done : i ≡ length (map node_symbol xs) = omega (arith, length-map xs node_symbol, c.loop-node-test.false, c.loop-node.auto.node-index-end) in
-    named_end (map node_symbol xs) i done c.args.solid (names c.args.solid (map node_symbol xs)) c.loop-node.invariant
+    any_from_yields_List (λ x. names_it c.args.solid (node_symbol x)) _ _ c.any.result c.any.ensures.ran (YieldsList-from_slice c.args.nodes.now cc) (λ x b q k. search (rules, tests))
+    ∙ any_is c.args.solid c.args.nodes.now

@@ -1,54 +1,66 @@
-use Rattle.std.proofs.Common.{◌≡◌, ℕ, ◌-◌, map, length, take, ap, ◌∙◌, subst, inl, arith}
+use Rattle.std.proofs.Common.{◌≡◌, ◌∙◌, refl, ℕ, ap, map, subst, inl, inr, Err}
+use Rattle.std.proofs.lemmas.Result.{err_from_is_err_and}
+use Rattle.records.specs.Format.{format}
 use Rattle.records.specs.Node.{node_record}
 use Rattle.records.specs.Put.{put}
-use Rattle.roundtrip.proofs.Again.{read_then_written, read_has_room}
+use Rattle.roundtrip.proofs.Again.{all_again, read_has_room}
 use Rattle.scenefile.specs.Checks.{Refused}
-use Rattle.scenefile.specs.Load.{Held, SceneOf}
-use Rattle.scenefile.specs.declared.counts.Rooms.{Rooms}
+use Rattle.scenefile.specs.Load.{held, rooms_of, SceneOf}
 use Rattle.space.specs.declared.refusal.Refusal.{Refusal}
 use Rattle.writer.specs.Rewrite.{RewrittenByTables}
 use Rattle.writer.specs.Write.{written_length}
 use Rattle.writer.proofs.Outputs.{output_of}
 use Rattle.writer.proofs.rewrite.rewrite.Goals as goal
 
--- a front that is cut off at 0
-none_less : (n : ℕ) → n - 0 ≡ n
-none_less n = omega arith
+pub returns-in_err-counts : goal.returns-in_err-counts
+returns-in_err-counts g c =
+    let f = format g.M.Make.NUMBER g.M.Solid.Record g.M.Joint.Record in
+    let was = held c.args.tables.now in
+    let is = held c.load.new.tables in
+    let out = c.args.out.now in
+    let r = c.from_residual.result in
+    let e = c.in_err-counts.field-0.0 in
+    let outcome = c.in_err-counts.ensures.outcome in
+    let p = err_from_is_err_and r c.from_residual.ensures.1 in
+    let answer : r ≡ Err e = p.1 ∙ ap Err p.2 in
+    let whole : RewrittenByTables f c.args.bytes.now was is out out r =
+    inr (record { refusal = e; refused = outcome.0; answer = answer; tables = outcome.1; after = refl }) in
+    record {
+      output = output_of f c.args.bytes.now was is out out r whole;
+      tables = whole;
+      same = c.in_err-counts.ensures.same;
+    }
 
-pub returns-in-Ok : goal.returns-in-Ok
-returns-in-Ok g c =
-    let make = g.M.Make.make in
-    let S = g.M.Solid.Record in
-    let J = g.M.Joint.Record in
-    let n = c.in-Ok.counts in
-    let loaded = c.in-Ok.ensures.outcome in
-    let is = c.load.new in
+pub returns : goal.returns
+returns g c =
+    let f = format g.M.Make.NUMBER g.M.Solid.Record g.M.Joint.Record in
+    let n = c.in_ok-counts.counts in
+    let loaded = c.in_ok-counts.ensures.outcome in
+    let was = held c.args.tables.now in
+    let is = held c.load.new.tables in
     let bytes = c.args.bytes.now in
-    let was = c.args.out.now in
+    let out = c.args.out.now in
+    let scene = c.scene_of-scene.result in
+    let fronts = c.scene_of-scene.ensures in
     let small = λ (i : ℕ). (c.type_inv.bytes i).fits in
-    let rooms : Rooms = record { solids = length c.args.solids.now; joints = length c.args.joints.now; nodes = length c.args.nodes.now; list = length c.args.list.now } in
-    let solids = take (n.solids - 0) is.solids in
-    let joints = take (n.joints - 0) is.joints in
-    let nodes = take (n.nodes - 0) is.nodes in
-    let of : SceneOf make S.size S.written J.written bytes rooms solids joints nodes = record {
+    let of : SceneOf f bytes (rooms_of was) scene.solids.now scene.joints.now scene.nodes.now = record {
       no_fault = loaded.no_fault;
-      solids_are = ap (λ k. map S.written (take k is.solids)) (none_less n.solids) ∙ loaded.solids_are;
-      joints_are = ap (λ k. map J.written (take k is.joints)) (none_less n.joints) ∙ loaded.joints_are;
-      nodes_are = ap (λ k. map node_record (take k is.nodes)) (none_less n.nodes) ∙ loaded.nodes_are.nodes_are;
+      solids_are = ap (map f.solid) fronts.solids ∙ loaded.solids_are;
+      joints_are = ap (map f.joint) fronts.joints ∙ loaded.joints_are;
+      nodes_are = ap (map node_record) fronts.nodes ∙ loaded.nodes_are.nodes_are;
     } in
-    let same = read_then_written S.size S.written J.written make bytes rooms solids joints nodes small of in
-    let room = read_has_room S.size S.written J.written make bytes rooms solids joints nodes small of in
-    let held : Held _ _ = record { solids = c.args.solids.now; joints = c.args.joints.now; nodes = c.args.nodes.now; list = c.args.list.now } in
-    let holds : Held _ _ = record { solids = is.solids; joints = is.joints; nodes = is.nodes; list = is.list } in
-    let whole : RewrittenByTables make S.size S.written J.written bytes held holds was c.write.new.out c.write.result =
+    let same = all_again f bytes (rooms_of was) scene.solids.now scene.joints.now scene.nodes.now small of in
+    let room = read_has_room f bytes (rooms_of was) scene.solids.now scene.joints.now scene.nodes.now small of in
+    let whole : RewrittenByTables f bytes was is out c.write.new.out c.write.result =
     inl (record {
-      none_refuses = subst (λ f. (e : Refusal) → Refused make S.size S.written J.written f rooms e → ⊥) same (c.write.ensures.again rooms room).accepted;
+      none_refuses = subst (λ b. (e : Refusal) → Refused f b (rooms_of was) e → ⊥) same (c.write.ensures.again (rooms_of was) room).accepted;
       counts = n;
       loaded = loaded;
-      answer = c.write.ensures.answer ∙ ap (λ f. written_length f was) same;
-      after = c.write.ensures.after ∙ ap (λ f. put f was) same;
+      answer = c.write.ensures.answer ∙ ap (λ b. written_length b out) same;
+      after = c.write.ensures.after ∙ ap (λ b. put b out) same;
     }) in
     record {
-      output = output_of make S.size S.written J.written bytes held holds was c.write.new.out c.write.result whole;
+      output = output_of f bytes was is out c.write.new.out c.write.result whole;
       tables = whole;
+      same = c.in_ok-counts.ensures.same;
     }
