@@ -14,7 +14,8 @@ use scene::scene::Scene;
 use solids::solid::Solid;
 use space::point::Point;
 
-// The distance at a point, or the refusal of a coordinate.
+// The distance at a point, or the refusal of a coordinate. A function of its own: written into `answer`, whose match has
+// one case today, the goal `returns` of `answer` stayed open.
 fn answer_at<S: Solid, J: Joint>(
     scene: &Scene<S, J>,
     x: i32,

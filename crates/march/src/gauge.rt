@@ -10,7 +10,8 @@ use crate::reading::Reading;
 use space::point::Point;
 
 pub trait Gauge {
-    // what the gauge must hold for its readings, from its making on
+    // what the gauge must hold for its readings, from its making on; every call that reads through a gauge asks it, as
+    // no type can: which gauges hold it is the kind's own affair
     ghost holds: { Self → Type 0 };
 
     // the distance that it means at a point
