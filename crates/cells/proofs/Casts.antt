@@ -1,10 +1,10 @@
 -- What the methods compute over bits, read as whole numbers. Assumes nothing.
-use Rattle.std.proofs.Common.{◌≡◌, ℕ, suc, ◌+◌, ◌*◌, ◌/◌, ◌%◌, ◌<◌, ◌≤◌, Bool, true, false, ◌&&◌, ltb, ℤ, pos, ◌+ℤ◌, ◌-ℤ◌, nat_abs, Some, None, sym, ap, ◌∙◌, subst, ap₂, ⊎_elim, mul-le-mul_right, suc-mul, div-mul-le_self, add-one, arith, w16, SFits, to_z, of_z}
+use Rattle.std.proofs.Common.{◌≡◌, ℕ, suc, ◌+◌, ◌*◌, ◌/◌, ◌%◌, ◌<◌, ◌≤◌, Bool, true, false, ◌&&◌, ltb, ℤ, pos, ◌+ℤ◌, ◌-ℤ◌, nat_abs, Some, None, sym, ap, ◌∙◌, subst, ap₂, mul-le-mul_right, suc-mul, add-one, arith, w16, to_z, of_z}
 use Rattle.space.specs.At.{at}
 use Rattle.space.specs.Pt.{InRange, InSpace}
 use Rattle.space.specs.declared.point.Point.{Point}
 use Rattle.std.proofs.lemmas.Int.{ints}
-use Rattle.std.proofs.lemmas.Bool.{cases_lt, lt-ltb, le-ltb, and_from, and_left, and_right, cond-true, cond-false}
+use Rattle.std.proofs.lemmas.Bool.{lt-ltb, le-ltb, and_from, and_left, and_right, cond-true, cond-false}
 use Rattle.cells.specs.Cell.{cube, child_outcome, toward_outcome}
 use Rattle.cells.specs.CellLaw.{HeldBySpace, Inside}
 use Rattle.cells.specs.Cells.{side, middle, part, spans, has, place_toward}
@@ -21,25 +21,10 @@ module _ (s r : ℕ) (low : ℤ) (some : 0 < s) (held : HeldBySpace s low) (e : 
   pub middle_read : read_16 (read_16 low +ℤ to_z w16 (r / 2)) ≡ middle s low
   middle_read = omega (arith, ints)
 
-  pub middle_range : InRange (read_16 (read_16 low +ℤ to_z w16 (r / 2)))
-  middle_range = (omega (arith, ints), omega (arith, ints))
-
 -- a part's low end
 module _ (s k : ℕ) (low : ℤ) (few : k < 4) (held : HeldBySpace (4 * s) low) where
   pub part_short : k * s + s ≤ 4 * s
   part_short = let le = mul-le-mul_right s few in omega (arith, suc-mul k s)
-
-  pub part_fits : k * s < 16384
-  part_fits = let le = part_short in short (k * s) le
-    where
-      short : (n : ℕ) → n + s ≤ 4 * s → n < 16384
-      short n le = omega (arith, ints)
-
-  pub part_read : (n : ℕ) → n ≡ k * s → read_16 (read_16 low +ℤ to_z w16 n) ≡ low +ℤ pos n
-  part_read n e = let le = part_short in omega (arith, ints)
-
-  pub part_sum : (n : ℕ) → n ≡ k * s → SFits w16 (read_16 low +ℤ to_z w16 n)
-  part_sum n e = let le = part_short in omega (arith, ints)
 
 -- ---- the children of a cell with level l, on one axis: s is the side of a child
 
@@ -68,17 +53,6 @@ module _ (l s : ℕ) (low : ℤ) (lt : l < 7) (held : HeldBySpace (side l) low) 
     end_range = let h = end_held in let some = side_some (l + 1) (omega arith) in (omega (arith, ints), omega (arith, ints))
 
 -- ---- the part that has a coordinate
-
-module _ (s n : ℕ) (low a : ℤ) (some : 0 < s) (short : nat_abs (a -ℤ low) < 4 * s) (fits_low : SFits w16 low) (fits_a : SFits w16 a) (is : n ≡ nat_abs (read_16 a -ℤ read_16 low)) where
-  pub place_is : n / s ≡ place_toward s low a
-  place_is = ap (λ m. m / s) (omega (arith, ints))
-
-  pub place_few : n / s < 4
-  place_few =
-      let le = div-mul-le_self n s in
-      ⊎_elim (λ lt. lt)
-      (λ four. let k = mul-le-mul_right s four in absurd (let f : ⊥ = omega (arith, ints) in f))
-      (cases_lt (n / s) 4)
 
 -- a point of the cell, on one axis
 module _ (l s : ℕ) (low a : ℤ) (lt : l < 7) (held : HeldBySpace (side l) low) (e : s ≡ side (suc l)) (h : Spanned (side l) low a) where

@@ -1,9 +1,12 @@
 -- What the tables of sides and radii say of each level, by one computed test each. Assumes nothing.
-use Rattle.std.proofs.Common.{◌≡◌, ℕ, zero, suc, ◌+◌, ◌-◌, ◌*◌, ◌/◌, ◌<◌, ◌≤◌, Bool, true, ◌&&◌, ◌||◌, eqb, ltb, leb, refl, subst, ⊎_elim, arith}
+use Rattle.std.proofs.Common.{◌≡◌, ℕ, zero, suc, ◌+◌, ◌-◌, ◌*◌, ◌/◌, ◌<◌, ◌≤◌, Bool, true, ◌&&◌, ◌||◌, eqb, ltb, leb, get_or, refl, sym, subst, ⊎_elim, arith}
 use Rattle.space.proofs.Roots.{square_lt_back}
 use Rattle.std.proofs.lemmas.Bool.{ltb-true, leb-true, eqb-true, and_parts, or_cases, cases_eq}
 use Rattle.cells.specs.CellLaw.{SidesLaw}
+use Rattle.std.proofs.Math.ListN.{get_or-map}
 use Rattle.cells.specs.Cells.{side, radius}
+use Rattle.cells.specs.declared.cells.TheConstants.{LEVELS}
+use Rattle.cells.specs.declared.cells.Level.{Level}
 
 -- a test that every number below n passes
 abbrev passed : (ℕ → Bool) → ℕ → Bool
@@ -43,3 +46,13 @@ radius_least l r le reach =
     let lt = square_lt_back (radius l - 1) r (omega arith) in
     omega arith)
     (or_cases (eqb (radius l) 0) (short l) (passes (λ m. eqb (radius m) 0 || short m) 8 refl l (omega arith)))
+
+-- ---- the program's table
+
+pub side_listed : (l : ℕ) → (get_or LEVELS l (record { side = 0; radius = 0 })).side ≡ side l
+unfolding side
+side_listed l = sym (get_or-map (λ (v : Level). v.side) LEVELS l (record { side = 0; radius = 0 }))
+
+pub radius_listed : (l : ℕ) → (get_or LEVELS l (record { side = 0; radius = 0 })).radius ≡ radius l
+unfolding radius
+radius_listed l = sym (get_or-map (λ (v : Level). v.radius) LEVELS l (record { side = 0; radius = 0 }))

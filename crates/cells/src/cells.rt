@@ -8,10 +8,41 @@ ghost use Rattle.cells.specs.Cells.{side, radius, whole_cube, centre, part, span
 use crate::cell::Cell;
 use space::point::Point;
 
-// By level.
-const SIDES: [u16; 8] = [16384, 4096, 1024, 256, 64, 16, 4, 1];
+// What every cell of a level has.
+#[derive(Clone, Copy)]
+struct Level {
+    side: u16,
+    radius: u16,
+}
 
-const RADII: [u16; 8] = [14189, 3548, 887, 222, 56, 14, 4, 0];
+const LEVELS: [Level; 8] = [
+    Level {
+        side: 16384,
+        radius: 14189,
+    },
+    Level {
+        side: 4096,
+        radius: 3548,
+    },
+    Level {
+        side: 1024,
+        radius: 887,
+    },
+    Level {
+        side: 256,
+        radius: 222,
+    },
+    Level {
+        side: 64,
+        radius: 56,
+    },
+    Level {
+        side: 16,
+        radius: 14,
+    },
+    Level { side: 4, radius: 4 },
+    Level { side: 1, radius: 0 },
+];
 
 const FINEST: u8 = 7;
 
@@ -35,14 +66,14 @@ impl Cell {
     pub fn side(self) -> u16
         ensures { result ≡ side self.level }
     {
-        SIDES[self.level as usize]
+        LEVELS[usize::from(self.level)].side
     }
 
     // How far the cell's points are from its centre at most, rounded up.
     pub fn radius(self) -> u16
         ensures { result ≡ radius self.level }
     {
-        RADII[self.level as usize]
+        LEVELS[usize::from(self.level)].radius
     }
 
     // The low corner plus half the side, rounded down.
@@ -105,28 +136,30 @@ impl Cell {
         requires { self.level < 7 }
         ensures { result ≡ side (suc self.level) }
     {
-        SIDES[self.level as usize + 1]
+        LEVELS[usize::from(self.level) + 1].side
     }
 }
 
 // On one axis: the low end of the part with this place among four parts of this extent.
 fn part(extent: u16, place: u8, low: i16) -> i16
-    requires { (place < 4) × (HeldBySpace (4 * extent) low) }
+    requires few { place < 4 }
+    requires held { HeldBySpace (4 * extent) low }
     ensures { result ≡ part extent place low }
 {
-    low + (place as u16 * extent) as i16
+    low + (u16::from(place) * extent) as i16
 }
 
 // On one axis: whether a span of this extent has the coordinate.
 fn spans(extent: u16, low: i16, a: i16) -> bool
     ensures { result ≡ spans extent low a }
 {
-    low <= a && (a as i32) < low as i32 + extent as i32
+    low <= a && i32::from(a) < i32::from(low) + i32::from(extent)
 }
 
 // On one axis: the place of the part that has the coordinate, among four parts of this extent.
 fn place_toward(extent: u16, low: i16, a: i16) -> u8
-    requires { (0 < extent) × (unsigned_abs (a -ℤ low) < 4 * extent) }
+    requires some { 0 < extent }
+    requires near { unsigned_abs (a -ℤ low) < 4 * extent }
     ensures value { result ≡ place_toward extent low a }
     ensures few { result < 4 }
 {

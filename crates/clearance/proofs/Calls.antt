@@ -1,8 +1,8 @@
 -- Which call a line makes, from what is read of it. Assumes nothing.
-use Rattle.std.proofs.Common.{◌≡◌, ℕ, false, cond, eqb, ◌⊎◌, List, [], ◌∷◌, ℤ, pos, Some, None, Option, sym, refl, ap, ◌∙◌, inl, inr, ⊎_elim, arith}
-use Rattle.clearance.proofs.Fields.{fields_none, fields_space, fields_other, Spaced, one_or_spaced, letter_is}
+use Rattle.std.proofs.Common.{◌≡◌, ℕ, Bool, true, false, cond, eqb, ◌⊎◌, List, [], ◌∷◌, ℤ, pos, Some, None, Option, sym, refl, ap, ◌∙◌, inl, inr, ⊎_elim, arith}
+use Rattle.clearance.proofs.Fields.{fields_none, fields_other, Spaced, one_or_spaced}
 use Rattle.clearance.proofs.Numbers.{number_none, coordinate_minus, coordinate_plain}
-use Rattle.clearance.specs.Lines.{onto_first, fields, all_digits, number, signed_by, coordinate, distance_at, distance_call, call_from, call_of}
+use Rattle.clearance.specs.Lines.{onto_first, fields, all_digits, number, signed_by, coordinate, distance_at, distance_call, call_named, call_from, call_of}
 use Rattle.std.proofs.lemmas.Bool.{cond-false, ne_eqb, cases_eq, both_ways}
 
 not_number : (bs : List ℕ) → all_digits bs ≡ false → number bs ≡ None
@@ -50,25 +50,24 @@ pub no_third : (text x rest y z : List ℕ) → fields text ≡ x ∷ fields res
 no_third text x rest y z first second ed =
     sym (without_third (coordinate x) (coordinate y)) ∙ call_of_text text x rest y z (coordinate x) (coordinate y) None first second refl refl ed
 
--- a line of one letter and more fields is the call of that letter
-pub call_by_letter : (line rest : List ℕ) (b : ℕ) (others : List ℕ) → line ≡ 115 ∷ rest → fields line ≡ (b ∷ []) ∷ fields others → call_of line ≡ distance_call (fields others)
-call_by_letter line rest b others begins e =
-    let s = letter_is 115 b rest (fields others) (sym (ap fields begins) ∙ e) in
-    ap call_from (e ∙ ap (λ (x : ℕ). (x ∷ []) ∷ fields others) s)
-
--- a line that begins with no letter of a call is no call
-pub other_letter : (line : List ℕ) → ((rest : List ℕ) → line ≡ 115 ∷ rest → ⊥) → call_of line ≡ None
-other_letter [] other = ap call_from fields_none
-other_letter (b ∷ rest) other =
-    ⊎_elim
-    (λ space. ap call_from (ap (λ (x : ℕ). fields (x ∷ rest)) space ∙ fields_space rest))
-    (λ more. ap call_from (fields_other b rest more) ∙ by_rest (fields rest))
-    (cases_eq b 32)
+-- a line that is one field is no call
+pub lone_field : (line : List ℕ) → fields line ≡ line ∷ [] → call_of line ≡ None
+lone_field [] e = ap call_from e
+lone_field (b ∷ []) e = ap call_from e ∙ same (eqb b 115)
   where
-    not_s : (fs : List (List ℕ)) → cond (eqb b 115) (distance_call fs) None ≡ None
-    not_s fs = cond-false (eqb b 115) _ _ (ne_eqb b 115 (λ e. other rest (ap (λ (x : ℕ). x ∷ rest) e)))
+    same : (t : Bool) → cond t (distance_call []) None ≡ None
+    same true = refl
+    same false = refl
+lone_field (b ∷ (d ∷ rest)) e = ap call_from e
 
-    by_rest : (fs : List (List ℕ)) → call_from (onto_first b fs) ≡ None
-    by_rest [] = not_s []
-    by_rest ([] ∷ fs) = not_s fs
-    by_rest ((d ∷ f) ∷ fs) = refl
+-- a line of more fields is a call where the first is `s`
+pub s_call : (line name rest : List ℕ) → fields line ≡ name ∷ fields rest → name ≡ 115 ∷ [] → call_of line ≡ distance_call (fields rest)
+s_call line name rest e s = ap call_from (e ∙ ap (λ (x : List ℕ). x ∷ fields rest) s)
+
+pub other_call : (line name rest : List ℕ) → fields line ≡ name ∷ fields rest → (name ≡ 115 ∷ [] → ⊥) → call_of line ≡ None
+other_call line name rest e other = ap call_from e ∙ unnamed name other
+  where
+    unnamed : (name : List ℕ) → (name ≡ 115 ∷ [] → ⊥) → call_named name (fields rest) ≡ None
+    unnamed [] other = refl
+    unnamed (b ∷ []) other = cond-false (eqb b 115) _ _ (ne_eqb b 115 (λ h. other (ap (λ (x : ℕ). x ∷ []) h)))
+    unnamed (b ∷ (d ∷ more)) other = refl

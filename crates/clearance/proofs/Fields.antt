@@ -1,7 +1,6 @@
 -- What `fields` comes to. Assumes nothing.
-use Rattle.std.proofs.Common.{◌≡◌, ℕ, suc, ◌<◌, false, eqb, ◌⊎◌, List, [], ◌∷◌, ◌++◌, length, get_or, Some, None, Option, sym, refl, ap, ◌∙◌, inl, inr, ⊎_elim, arith, lit<, Bor}
+use Rattle.std.proofs.Common.{◌≡◌, ℕ, suc, ◌<◌, false, eqb, ◌⊎◌, List, [], ◌∷◌, ◌++◌, length, get_or, Some, None, sym, refl, ap, ◌∙◌, inl, inr, ⊎_elim, arith, lit<, Bor}
 use Rattle.clearance.specs.Lines.{onto_first, fields, is_digit, all_digits}
-use Rattle.clearance.specs.Splits.{SplitsField}
 use Rattle.std.proofs.lemmas.Str.Pattern.{IsSplitOnceResult, split_parts}
 use Rattle.std.proofs.lemmas.Bool.{cond-false, ne_eqb, cases_eq, and_right}
 
@@ -33,9 +32,12 @@ fields_split [] ys none = fields_space ys
 fields_split (x ∷ xs) ys none =
     fields_other x (xs ++ (32 ∷ ys)) (none 0 (omega arith)) ∙ ap (onto_first x) (fields_split xs ys (no_space_rest x xs none))
 
-pub splits_field : (bs : List ℕ) (r : Option (Bor (List ℕ) × Bor (List ℕ))) → IsSplitOnceResult 32 bs r → SplitsField bs r
-splits_field bs None h = fields_one bs (split_parts 32 bs None h (lit< tt))
-splits_field bs (Some x) h =
+-- what `split_once` makes of a text
+pub one_field : (bs : List ℕ) → IsSplitOnceResult 32 bs None → fields bs ≡ bs ∷ []
+one_field bs h = fields_one bs (split_parts 32 bs None h (lit< tt))
+
+pub first_field : (bs : List ℕ) (x : Bor (List ℕ) × Bor (List ℕ)) → IsSplitOnceResult 32 bs (Some x) → fields bs ≡ x.0.now ∷ fields x.1.now
+first_field bs x h =
     let parts = split_parts 32 bs (Some x) h (lit< tt) in
     ap fields parts.0 ∙ fields_split x.0.now x.1.now parts.1
 
@@ -75,21 +77,3 @@ one_or_spaced (b ∷ rest) =
     (λ more. inr ((b ∷ more.0.0, more.0.1, more.0.2, e ∙ ap (onto_first b) more.0.3), and_right (is_digit b) (all_digits rest) more.1))
     (one_or_spaced rest))
     (cases_eq b 32)
-
--- the first field of a line begins with the line's first byte
-pub letter_is : (first b : ℕ) (rest : List ℕ) (more : List (List ℕ)) → fields (first ∷ rest) ≡ (b ∷ []) ∷ more → b ≡ first
-letter_is first b rest more e =
-    ⊎_elim
-    (λ space. let n = ap (λ (x : ℕ). fields (x ∷ rest)) space ∙ fields_space rest in let z : ◌≡◌ {A = ℕ} 0 1 = cc in absurd (let f : ⊥ = omega arith in f))
-    (λ other. by_rest (fields rest) (sym (fields_other first rest other) ∙ e))
-    (cases_eq first 32)
-  where
-    by_rest : (fs : List (List ℕ)) → onto_first first fs ≡ (b ∷ []) ∷ more → b ≡ first
-    by_rest [] e = cc
-    by_rest (f ∷ fs) e = cc
-
--- a name of one letter
-pub one_letter : (name : List ℕ) → length name ≡ 1 → (b : ℕ) × (name ≡ b ∷ [])
-one_letter [] h = absurd (let f : ⊥ = omega arith in f)
-one_letter (b ∷ []) h = (b, refl)
-one_letter (b ∷ (d ∷ name)) h = absurd (let f : ⊥ = omega arith in f)

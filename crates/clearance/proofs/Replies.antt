@@ -10,9 +10,9 @@ use Rattle.tree.specs.Parts.{Parts}
 use Rattle.tree.specs.Spell.{Symbol}
 
 -- the numbers that were passed are equal to those that were called for
-pub answers_at : (x y z : ℤ) (P : Parts) (nodes : List Symbol) (p : Pt) (v w x' y' z' : ℤ) → Ok p ≡ pt_outcome x' y' z' → x' ≡ x → y' ≡ y → z' ≡ z → Distance P nodes p v → w ≡ v → AnswersAt P nodes (pt_outcome x y z) (At w)
+pub answers_at : (x y z : ℤ) (P : Parts) (nodes : List Symbol) (p : Pt) (v w x' y' z' : ℤ) → Ok p ≡ pt_outcome x' y' z' → x' ≡ x → y' ≡ y → z' ≡ z → Distance P nodes p v → w ≡ v → AnswersAt P nodes (pt_outcome x y z) (Ok (At w))
 answers_at x y z P nodes p v w x' y' z' e ex ey ez d same =
     subst
-    (λ (o : Result Pt Refusal). AnswersAt P nodes o (At w))
+    (λ (o : Result Pt Refusal). AnswersAt P nodes o (Ok (At w)))
     (e ∙ (λ i. pt_outcome (ex i) (ey i) (ez i)))
-    (v, d, ap (λ (n : ℤ). At n) same)
+    (v, d, ap (λ (n : ℤ). Ok (At n)) same)

@@ -2,4 +2,3 @@ pub mod Answers
 pub mod Examples
 pub mod Figures
 pub mod Lines
-pub mod Splits

@@ -4,6 +4,7 @@
 pub mod answer;
 pub mod call;
 pub mod display;
+pub mod fault;
 pub mod figures;
 pub mod reading;
 pub mod script;

@@ -1,5 +1,5 @@
 // Lines, and the answers of the block that the ball cuts.
-use crate::answer::Answer;
+use crate::answer::{Answer, Fault};
 use crate::call::Call;
 use crate::reading::read_call;
 use crate::script::answer;
@@ -39,8 +39,8 @@ fn bad_lines(rt: HostRuntime) {
 fn printed(rt: HostRuntime) -> Result<(), Fail> {
     let heap = rt.alloc();
     assert!(rt; Answer::At(-40).to_string(heap)?.as_str() == "at -40");
-    assert!(rt; Answer::No(Refusal::Outside(2)).to_string(heap)?.as_str() == "no 12 2");
-    assert!(rt; Answer::Bad.to_string(heap)?.as_str() == "bad");
+    assert!(rt; Fault::No(Refusal::Outside(2)).to_string(heap)?.as_str() == "no 12 2");
+    assert!(rt; Fault::Bad.to_string(heap)?.as_str() == "bad");
     Ok(())
 }
 
@@ -100,9 +100,9 @@ fn answers(rt: HostRuntime) -> Result<(), Fail> {
         nodes: &nodes,
         list: &list,
     };
-    assert!(rt; answer(&scene, "s 0 0 0") == Answer::At(-40));
-    assert!(rt; answer(&scene, "s 100 0 0") == Answer::At(60));
-    assert!(rt; answer(&scene, "s 0 8192 0") == Answer::No(Refusal::Outside(2)));
-    assert!(rt; answer(&scene, "s 0 0") == Answer::Bad);
+    assert!(rt; answer(&scene, "s 0 0 0") == Ok(Answer::At(-40)));
+    assert!(rt; answer(&scene, "s 100 0 0") == Ok(Answer::At(60)));
+    assert!(rt; answer(&scene, "s 0 8192 0") == Err(Fault::No(Refusal::Outside(2))));
+    assert!(rt; answer(&scene, "s 0 0") == Err(Fault::Bad));
     Ok(())
 }

@@ -1,3 +1,2 @@
 pub mod Descents
-pub mod Marks
 pub mod Sayings

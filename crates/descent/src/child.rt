@@ -1,5 +1,6 @@
 // What a descent leads to. This file holds the type alone, so that the specs can name it.
 
+// Not a Result: neither case is a failure, and a caller goes on from both.
 #[derive(Clone, Copy)]
 pub enum Child {
     // a near cell, with the length of its list

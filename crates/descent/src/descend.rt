@@ -2,8 +2,8 @@
 ghost use Rattle.std.specs.Prelude.{◌≡◌, map, length};
 ghost use Rattle.cells.specs.Cell.{cube};
 ghost use Rattle.descent.specs.Descent.{DescentOutcome, ChildSays, ReadyAgain};
+ghost use Rattle.scene.specs.Meant.{listed};
 ghost use Rattle.scene.specs.Pruned.{RestKept};
-ghost use Rattle.tree.specs.Parts.{parts};
 
 use crate::child::Child;
 use crate::far::far_constant;
@@ -24,8 +24,8 @@ pub fn descend<S: Solid, J: Joint>(
     factor: u8,
     free: &mut [Entry],
 ) -> Result<Child, Refusal>
-    ensures outcome { DescentOutcome (parts S.dist J.radius J.fillet held.now.solids.now held.now.joints.now) factor (cube child) held.now.list.now free.old free.new result }
-    ensures says { ChildSays (parts S.dist J.radius J.fillet held.now.solids.now held.now.joints.now) factor (cube child) held.now.list.now free.new result }
+    ensures outcome { DescentOutcome (listed S.Solid J.Joint held.now) factor (cube child) held.now.list.now free.old free.new result }
+    ensures says { ChildSays (listed S.Solid J.Joint held.now) factor (cube child) held.now.list.now free.new result }
     ensures rest { RestKept held.now.list.now free.old free.new }
     ensures again { ReadyAgain (length held.now.solids.now) (length held.now.joints.now) free.new result }
 {

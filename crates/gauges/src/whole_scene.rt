@@ -1,5 +1,6 @@
 // The whole scene as a gauge: every reading is exact and moves nothing.
 ghost use Rattle.gauges.specs.Exact.{ExactReads};
+ghost use Rattle.gauges.specs.SceneLaws.{scene_laws};
 ghost use Rattle.gauges.specs.SceneMeans.{scene_means};
 
 use joints::joint::Joint;
@@ -19,13 +20,10 @@ impl<'s, 'a, S: Solid, J: Joint> Gauge for WholeScene<'s, 'a, S, J> {
     // a scene's type says all that it must hold
     ghost holds = { λ _. Unit {0} };
 
-    ghost means = { λ w. scene_means S.dist J.radius J.fillet w.scene.now };
+    ghost means = { λ w. scene_means S.Solid J.Joint w.scene.now };
 
-    ghost reads = { ExactReads (λ w. scene_means S.dist J.radius J.fillet w.scene.now) };
-
-    fn laws() -> u8 {
-        0
-    }
+    // what it means stands here again, since a value sees no other member of its `impl`
+    ghost reads = { ExactReads (λ w. scene_means S.Solid J.Joint w.scene.now) };
 
     fn sure(&self, p: Point) -> i32 {
         self.scene.distance(p)
@@ -34,4 +32,6 @@ impl<'s, 'a, S: Solid, J: Joint> Gauge for WholeScene<'s, 'a, S, J> {
     fn quick(&mut self, p: Point) -> Reading {
         Reading::Exact(self.sure(p))
     }
+
+    ghost laws = { scene_laws S.Solid.own J.Joint.own S.near S.ranged J.smooth (λ w. w.scene.now) };
 }

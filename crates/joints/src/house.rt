@@ -6,7 +6,7 @@ ghost use Rattle.joints.specs.Fillets.{sharp_law, rounded_law};
 use crate::joint::Joint;
 use crate::radius::Radius;
 
-// Sharp, or rounded as by a piece of a parabola.
+// Sharp, or rounded as by a piece of a parabola. No Option<Radius>: a sharp joint is a joint, with a record of its own.
 #[derive(Clone, Copy)]
 pub enum HouseJoint {
     Sharp,
@@ -31,7 +31,7 @@ impl Joint for HouseJoint {
         match *self {
             HouseJoint::Sharp => 0,
             HouseJoint::Rounded(r) => {
-                let k = r.k as u32;
+                let k = u32::from(r.k);
                 let m = k.saturating_sub(gap);
                 (m * m / (4 * k)) as u16
             }

@@ -22,8 +22,8 @@ impl Joint for SoftJoint {
 
     fn fillet(&self, gap: u32) -> u16 {
         // the cube needs up to 34 bits
-        let k = self.0.k as u64;
-        let m = k.saturating_sub(gap as u64);
+        let k = u64::from(self.0.k);
+        let m = k.saturating_sub(u64::from(gap));
         (m * m * m / (6 * k * k)) as u16
     }
 }

@@ -4,4 +4,3 @@ pub mod Points
 pub mod Runs
 pub mod Strides
 pub mod Told
-pub mod Values

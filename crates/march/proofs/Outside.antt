@@ -1,7 +1,8 @@
 -- What comes of seven numbers, from what comes of the first three and the next three. Assumes nothing.
-use Rattle.std.proofs.Common.{◌≡◌, ℕ, ◌+◌, ◌≤◌, Bool, true, false, cond, ℤ, pos, nat_abs, Some, None, Ok, Err, Option, Result, sym, refl, ap, ◌∙◌, arith, w32, SFits, to_z, of_z}
-use lib.Signed.{lt_z}
+use Rattle.std.proofs.Common.{◌≡◌, ℕ, ◌+◌, ◌<◌, ◌≤◌, Bool, true, false, cond, ℤ, nat_abs, Some, None, Ok, Err, Option, Result, sym, refl, ap, subst, ◌∙◌, arith, w32, SFits, to_z, of_z}
 use Rattle.std.proofs.lemmas.Int.{ints, to_z-of_z}
+use Rattle.std.specs.Int.{FitsUnsignedBits}
+use Rattle.std.specs.Result.{MatchResult, IsErrAnd}
 use Rattle.std.proofs.lemmas.Bool.{cond-true, cond-false}
 use Rattle.space.specs.At.{in_range, or_refused, pt_outcome}
 use Rattle.space.specs.Pt.{Pt}
@@ -43,24 +44,36 @@ as_passed p f g h =
     λ i. pt_outcome (x i) (y i) (z i)
 
 -- a margin as it is tested
-module _ (m : ℤ) (fits : SFits w32 m) where
-  pub margin_inside : lt_z (to_z w32 (of_z w32 m)) (pos 0) ≡ false → lt_z (pos 4095) (to_z w32 (of_z w32 m)) ≡ false → in_margin m ≡ true
-  margin_inside low high = inside (rw (to_z-of_z w32 m fits) at low) (rw (to_z-of_z w32 m fits) at high)
-    where
-      inside : lt_z m (pos 0) ≡ false → lt_z (pos 4095) m ≡ false → in_margin m ≡ true
-      inside l h = grind (arith, ints)
+module _ (m : ℤ) (fits : SFits w32 m) (n : ℕ) where
+  abbrev Read : ℤ
+  Read = to_z w32 (of_z w32 m)
 
-  pub margin_below : lt_z (to_z w32 (of_z w32 m)) (pos 0) ≡ true → in_margin m ≡ false
-  margin_below low = below (rw (to_z-of_z w32 m fits) at low)
+  pub margin_inside : FitsUnsignedBits 16 Read → n ≡ nat_abs Read → n ≤ 4095 → in_margin m ≡ true
+  margin_inside fine is low = inside (rw (to_z-of_z w32 m fits) at fine) (rw (to_z-of_z w32 m fits) at is)
     where
-      below : lt_z m (pos 0) ≡ true → in_margin m ≡ false
-      below l = grind (arith, ints)
+      inside : FitsUnsignedBits 16 m → n ≡ nat_abs m → in_margin m ≡ true
+      inside f e = grind (arith, ints)
 
-  pub margin_above : lt_z (pos 4095) (to_z w32 (of_z w32 m)) ≡ true → in_margin m ≡ false
-  margin_above high = above (rw (to_z-of_z w32 m fits) at high)
+  pub margin_over : n ≡ nat_abs Read → 4095 < n → in_margin m ≡ false
+  margin_over is high = over (rw (to_z-of_z w32 m fits) at is)
     where
-      above : lt_z (pos 4095) m ≡ true → in_margin m ≡ false
-      above h = grind (arith, ints)
+      over : n ≡ nat_abs m → in_margin m ≡ false
+      over e = grind (arith, ints)
+
+pub margin_misfit : (m : ℤ) → SFits w32 m → (FitsUnsignedBits 16 (to_z w32 (of_z w32 m)) → ⊥) → in_margin m ≡ false
+margin_misfit m fits wrong = grind (arith, ints)
+
+-- what `map_err` passes on
+pub refused_by : {A E F : Type 0} (P : E → F → Type 0) (r : Result A E) (m : Result A F) (f : F) → MatchResult r (λ x. m ≡ Ok x) (λ e. IsErrAnd m (P e)) → m ≡ Err f → (e : E) × (r ≡ Err e) × P e f
+refused_by P (Ok x) (Ok y) f h is = absurd (let z : ◌≡◌ {A = ℕ} 0 1 = cc in let f : ⊥ = omega arith in f)
+refused_by P (Ok x) (Err y) f h is = absurd (let z : ◌≡◌ {A = ℕ} 0 1 = cc in let f : ⊥ = omega arith in f)
+refused_by P (Err e) (Ok y) f h is = absurd h
+refused_by P (Err e) (Err y) f h is = (let same : y ≡ f = cc in (e, refl, subst (P e) same h))
+
+pub kept_by : {A E F : Type 0} (P : E → F → Type 0) (r : Result A E) (m : Result A F) (x : A) → MatchResult r (λ y. m ≡ Ok y) (λ e. IsErrAnd m (P e)) → m ≡ Ok x → r ≡ Ok x
+kept_by P (Ok y) m x h is = cc
+kept_by P (Err e) (Ok y) x h is = absurd h
+kept_by P (Err e) (Err y) x h is = absurd (let z : ◌≡◌ {A = ℕ} 0 1 = cc in let f : ⊥ = omega arith in f)
 
 module _ (a b : Pt) (m : ℤ) where
   -- B's coordinates

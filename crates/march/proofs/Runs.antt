@@ -1,27 +1,27 @@
 -- What is certain of a march after any number of steps. Assumes nothing.
-use Rattle.std.proofs.Common.{◌≡◌, ℕ, suc, ◌-◌, ◌<◌, ◌≤◌, ℤ, sym, refl, ap, ◌∙◌, subst, zero-le, arith}
+use Rattle.std.proofs.Common.{◌≡◌, ℕ, suc, sym, refl, ◌∙◌, subst, zero-le, arith}
 use Rattle.setpoints.proofs.SetPoints.{set_points_law}
 use Rattle.space.specs.Pt.{Pt}
 use Rattle.march.specs.Kept.{Kept}
 use Rattle.march.specs.Laws.{GaugeLaws}
 use Rattle.march.specs.Motion.{route}
-use Rattle.march.specs.Route.{last, point_at}
+use Rattle.march.specs.Route.{point_at}
 use Rattle.march.specs.Run.{Marched, begun, stepped, Certain, ByHandLaw}
 use Rattle.march.specs.State.{State, moving, moving_state}
 use Rattle.march.specs.Step.{Stepped}
 use Rattle.march.specs.Tells.{Tells}
+use Rattle.march.specs.declared.gauge.Gauge.{Ghosts as Gauge}
 use Rattle.march.specs.declared.motion.Motion.{Motion}
 use Rattle.march.specs.declared.moving.Moving.{Moving}
-use Rattle.march.specs.declared.reading.Reading.{Reading}
 use Rattle.march.proofs.Points.{in_space}
-use Rattle.march.proofs.Strides.{after, grows}
+use Rattle.march.proofs.Strides.{after}
 use Rattle.march.proofs.Told.{told}
 
 -- a kind of gauge under the laws
-module _ {G : Type 0} (holds : G → Type 0) (means : G → Pt → ℤ) (reads : G → Pt → Reading → G → Type 0) (law : GaugeLaws holds means reads) where
+module _ {G : Type 0} (K : Gauge G) (law : GaugeLaws K.holds K.means K.reads) where
   -- changes between steps that keep what the gauge holds and means
-  module _ (between : G → G → Type 0) (changes : (g h : G) → holds g → between g h → Kept holds means g h) (m : Motion) (g : G) (start : holds g) where
-    pub certain : {k : ℕ} {s : State} {h : G} → Marched means reads between (route m) g k s h → Kept holds means g h × Certain (means g) (route m) k s
+  module _ (between : G → G → Type 0) (changes : (g h : G) → K.holds g → between g h → Kept K.holds K.means g h) (m : Motion) (g : G) (start : K.holds g) where
+    pub certain : {k : ℕ} {s : State} {h : G} → Marched K between (route m) g k s h → Kept K.holds K.means g h × Certain (K.means g) (route m) k s
     certain begun = (record { holding = start; meaning = λ p. refl }, (refl, record { within = zero-le; few = zero-le; passed = λ j lt. absurd (let f : ⊥ = omega arith in f) }))
     certain (stepped {k} {i} {h} {h'} {h''} {s} before change step) =
         let so_far = certain before in
@@ -33,39 +33,29 @@ module _ {G : Type 0} (holds : G → Type 0) (means : G → Pt → ℤ) (reads :
         let holding = changed.holding in
         let reading = step.valued.reading in
         let took = step.valued.took in
-        let meaning : (q : Pt) → means h' q ≡ means g q = λ q. changed.meaning q ∙ so_far.0.meaning q in
+        let meaning : (q : Pt) → K.means h' q ≡ K.means g q = λ q. changed.meaning q ∙ so_far.0.meaning q in
         let kept = law.kept h' h'' p reading p_in holding took in
         let tale = subst (Tells reading) (meaning p) (law.tells h' h'' p reading p_in holding took) in
-        let value = told m.margin reading (means h'' p) (means g p) step.value tale (kept.meaning p ∙ meaning p) step.valued.by in (
+        let value = told m.margin reading (K.means h'' p) (K.means g p) step.value tale (kept.meaning p ∙ meaning p) step.valued.by in (
           record { holding = kept.holding; meaning = λ q. kept.meaning q ∙ meaning q },
-          subst (Certain (means g) (route m) _) (sym step.so) (after (means g) (route m) (law.near g start) set k i step.value way value),
+          subst (Certain (K.means g) (route m) _) (sym step.so) (after (K.means g) (route m) (law.near g start) set k i step.value way value),
         )
 
-  pub by_hand : ByHandLaw holds means reads
-  by_hand m g h k s start run = certain (Kept holds means) (λ _ _ _ kept. kept) m g start run
+  pub by_hand : ByHandLaw K
+  by_hand m g h k s start run = certain (Kept K.holds K.means) (λ _ _ _ kept. kept) m g start run
 
   -- a march with nothing between its steps
-  unchanged : (g h : G) → holds g → h ≡ g → Kept holds means g h
-  unchanged g h start e = subst (Kept holds means g) (sym e) (record { holding = start; meaning = λ p. refl })
+  unchanged : (g h : G) → K.holds g → h ≡ g → Kept K.holds K.means g h
+  unchanged g h start e = subst (Kept K.holds K.means g) (sym e) (record { holding = start; meaning = λ p. refl })
 
-  module _ (m : Motion) (g : G) (start : holds g) where
+  module _ (m : Motion) (g : G) (start : K.holds g) where
     abbrev pub Alone : ℕ → State → G → Type 0
-    Alone k s h = Marched means reads (λ before after. after ≡ before) (route m) g k s h
+    Alone k s h = Marched K (λ before after. after ≡ before) (route m) g k s h
 
-    pub alone : {k : ℕ} {s : State} {h : G} → Alone k s h → Kept holds means g h × Certain (means g) (route m) k s
+    pub alone : {k : ℕ} {s : State} {h : G} → Alone k s h → Kept K.holds K.means g h × Certain (K.means g) (route m) k s
     alone run = certain (λ before after. after ≡ before) unchanged m g start run
 
-    pub one_more : (k : ℕ) (mv : Moving) (h h'' : G) (s : State) → Alone k (moving_state mv) h → Stepped means reads (route mv.motion) mv.number h h'' s → Alone (suc k) s h''
+    pub one_more : (k : ℕ) (mv : Moving) (h h'' : G) (s : State) → Alone k (moving_state mv) h → Stepped K (route mv.motion) mv.number h h'' s → Alone (suc k) s h''
     one_more k mv h h'' s run step =
         let same = (alone run).1.0 in
-        stepped (subst (λ r. Alone k (moving r mv.number) h) same run) refl (subst (λ r. Stepped means reads r mv.number h h'' s) same step)
-
-  -- what is left of the way falls
-  pub falls : (mv next : Moving) (h h'' : G) → Stepped means reads (route mv.motion) mv.number h h'' (moving_state next) → last (route next.motion) - next.number < last (route mv.motion) - mv.number
-  falls mv next h h'' step =
-      let went = grows (route mv.motion) (route next.motion) mv.number next.number step.value step.so in
-      let same = ap last went.0 in
-      shrinks (last (route next.motion)) (last (route mv.motion)) next.number mv.number same next.within went.1
-    where
-      shrinks : (n n' j i : ℕ) → n ≡ n' → j ≤ n → i < j → n - j < n' - i
-      shrinks n n' j i e le lt = omega arith
+        stepped (subst (λ r. Alone k (moving r mv.number) h) same run) refl (subst (λ r. Stepped K r mv.number h h'' s) same step)

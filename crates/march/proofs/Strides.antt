@@ -1,5 +1,5 @@
 -- Where a step takes a march, and what it leaves behind. Assumes nothing.
-use Rattle.std.proofs.Common.{◌≡◌, ℕ, suc, ◌+◌, ◌-◌, ◌*◌, ◌/◌, ◌<◌, ◌≤◌, Bool, true, false, cond, leb, ℤ, pos, ◌-ℤ◌, nat_abs, ◌≤ℤ◌, ◌<ℤ◌, refl, subst, ⊎_elim, div-mul-le_self, arith}
+use Rattle.std.proofs.Common.{◌≡◌, ℕ, suc, ◌+◌, ◌-◌, ◌*◌, ◌/◌, ◌<◌, ◌≤◌, Bool, true, false, cond, leb, ℤ, pos, ◌-ℤ◌, nat_abs, ◌≤ℤ◌, ◌<ℤ◌, Some, None, refl, subst, ⊎_elim, div-mul-le_self, arith}
 use lib.Signed.{le_z}
 use Rattle.setpoints.specs.Law.{SetPoints}
 use Rattle.space.specs.Laws.{DistanceLaw}
@@ -11,8 +11,6 @@ use Rattle.march.specs.Route.{Route, last, point_at}
 use Rattle.march.specs.Run.{OnTheWay, Certain}
 use Rattle.march.specs.State.{moving, ended}
 use Rattle.march.specs.Step.{stride, state_after}
-use Rattle.march.specs.declared.outcome.Outcome.{Outcome}
-use Rattle.march.specs.declared.outcome.Outcome.TheVariants.{Met, Clear}
 use Rattle.march.proofs.Told.{Told, not_above, above}
 
 -- twice what is within a stride is below what the value is above the margin by
@@ -22,24 +20,6 @@ short t x h some = omega (arith, div-mul-le_self (x - 1) 2)
 -- where a march on its way stands
 pub same_place : {r r' : Route} {i j : ℕ} → moving r i ≡ moving r' j → (r ≡ r') × (i ≡ j)
 same_place e = (cc, cc)
-
--- a step that goes on goes on along the same motion, from a later set point
-pub grows : (r r' : Route) (i j : ℕ) (v : ℤ) → moving r' j ≡ state_after r i v → (r' ≡ r) × (i < j)
-grows r r' i j v = met (le_z v (pos r.margin))
-  where
-    never : {X : Type 0} (o : Outcome) → moving r' j ≡ ended o → X
-    never o e = let z : ◌≡◌ {A = ℕ} 0 1 = cc in absurd (let f : ⊥ = omega arith in f)
-
-    on : moving r' j ≡ moving r (i + stride r.margin v) → (r' ≡ r) × (i < j)
-    on e = let h = same_place e in (h.0, omega (arith, h.1))
-
-    more : (b : Bool) → moving r' j ≡ cond b (moving r (i + stride r.margin v)) (ended Clear) → (r' ≡ r) × (i < j)
-    more true e = on e
-    more false e = never Clear e
-
-    met : (b : Bool) → moving r' j ≡ cond b (ended (Met i v)) (cond (leb (i + stride r.margin v) (last r)) (moving r (i + stride r.margin v)) (ended Clear)) → (r' ≡ r) × (i < j)
-    met true e = never (Met i v) e
-    met false e = more (leb (i + stride r.margin v) (last r)) e
 
 module _ (d : Pt → ℤ) (r : Route) (law : DistanceLaw d) (set : SetPoints r.from r.to) where
   -- a set point within a stride of i
@@ -65,7 +45,7 @@ module _ (d : Pt → ℤ) (r : Route) (law : DistanceLaw d) (set : SetPoints r.f
         (λ le. passed i j v over (told.high over) le before within)
         (cases_lt j i)
 
-    farther : pos r.margin <ℤ v → (b : Bool) → leb (i + stride r.margin v) (last r) ≡ b → Certain d r (suc k) (cond b (moving r (i + stride r.margin v)) (ended Clear))
+    farther : pos r.margin <ℤ v → (b : Bool) → leb (i + stride r.margin v) (last r) ≡ b → Certain d r (suc k) (cond b (moving r (i + stride r.margin v)) (ended None))
     farther over true e =
         let fits = leb-true (i + stride r.margin v) (last r) e in
         (refl, record { within = fits; few = omega (arith, way.few); passed = λ j lt. behind j over lt (omega arith) })
@@ -73,7 +53,7 @@ module _ (d : Pt → ℤ) (r : Route) (law : DistanceLaw d) (set : SetPoints r.f
         let out = leb-false (i + stride r.margin v) (last r) e in
         (omega (arith, way.few, way.within), λ j le. behind j over (omega arith) le)
 
-    went : (b : Bool) → le_z v (pos r.margin) ≡ b → Certain d r (suc k) (cond b (ended (Met i v)) (cond (leb (i + stride r.margin v) (last r)) (moving r (i + stride r.margin v)) (ended Clear)))
+    went : (b : Bool) → le_z v (pos r.margin) ≡ b → Certain d r (suc k) (cond b (ended (Some (record { number = i; distance = v }))) (cond (leb (i + stride r.margin v) (last r)) (moving r (i + stride r.margin v)) (ended None)))
     went true e =
         let low = not_above v (pos r.margin) e in
         (omega (arith, way.few, way.within), record { within = way.within; distance = told.low low; reached = low; first = way.passed })

@@ -1,9 +1,8 @@
 -- How a march has to end, by the distances alone. Assumes nothing.
-use Rattle.std.specs.Prelude.{◌≡◌, ℕ, ◌<◌, ◌≤◌, ℤ, pos, ◌≤ℤ◌, ◌<ℤ◌}
+use Rattle.std.specs.Prelude.{◌≡◌, ℕ, ◌<◌, ◌≤◌, ℤ, pos, Some, None, Option, ◌≤ℤ◌, ◌<ℤ◌}
 use Rattle.space.specs.Pt.{Pt}
 use Rattle.march.specs.Route.{Route, last, point_at}
-use Rattle.march.specs.declared.outcome.Outcome.{Outcome}
-use Rattle.march.specs.declared.outcome.Outcome.TheVariants.{Met, Clear}
+use Rattle.march.specs.declared.outcome.Met.{Met}
 
 -- the distance at set point i is above the margin
 abbrev pub Above : (Pt → ℤ) → Route → ℕ → Type 0
@@ -17,6 +16,6 @@ pub record MetAt (d : Pt → ℤ) (r : Route) (i : ℕ) (v : ℤ) : Type 0 where
   pub first : (j : ℕ) → j < i → Above d r j
 
 -- clear: there is none
-abbrev pub Ends : (Pt → ℤ) → Route → Outcome → Type 0
-Ends d r (Met i v) = MetAt d r i v
-Ends d r Clear = (j : ℕ) → j ≤ last r → Above d r j
+abbrev pub Ends : (Pt → ℤ) → Route → Option Met → Type 0
+Ends d r (Some m) = MetAt d r m.number m.distance
+Ends d r None = (j : ℕ) → j ≤ last r → Above d r j

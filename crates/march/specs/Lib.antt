@@ -2,6 +2,7 @@ pub mod Ends
 pub mod Kept
 pub mod Laws
 pub mod Motion
+pub mod Printed
 pub mod Route
 pub mod Run
 pub mod State

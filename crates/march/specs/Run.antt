@@ -8,19 +8,19 @@ use Rattle.march.specs.Route.{Route, last}
 use Rattle.march.specs.State.{State, moving, ended}
 use Rattle.march.specs.Step.{Stepped}
 use Rattle.march.specs.declared.motion.Motion.{Motion}
-use Rattle.march.specs.declared.reading.Reading.{Reading}
+use Rattle.march.specs.declared.gauge.Gauge.{Ghosts as Gauge}
 
 -- From its beginning with gauge g, k steps take a march along r to s and leave gauge h. Before each step the gauge may
 -- have become another, as `between` allows.
-pub data Marched {G : Type 0} (means : G → Pt → ℤ) (reads : G → Pt → Reading → G → Type 0) (between : G → G → Type 0) (r : Route) (g : G) : ℕ → State → G → Type 0 where
-  begun : Marched means reads between r g 0 (moving r 0) g
-  stepped : {k i : ℕ} {h h' h'' : G} {s : State} → Marched means reads between r g k (moving r i) h → between h h' → Stepped means reads r i h' h'' s → Marched means reads between r g (suc k) s h''
+pub data Marched {G : Type 0} (K : Gauge G) (between : G → G → Type 0) (r : Route) (g : G) : ℕ → State → G → Type 0 where
+  begun : Marched K between r g 0 (moving r 0) g
+  stepped : {k i : ℕ} {h h' h'' : G} {s : State} → Marched K between r g k (moving r i) h → between h h' → Stepped K r i h' h'' s → Marched K between r g (suc k) s h''
 
 -- a whole march: nothing else happens to the gauge, and it ends within N + 1 steps
-pub record Whole {G : Type 0} (means : G → Pt → ℤ) (reads : G → Pt → Reading → G → Type 0) (r : Route) (g : G) (s : State) (h : G) : Type 0 where
+pub record Whole {G : Type 0} (K : Gauge G) (r : Route) (g : G) (s : State) (h : G) : Type 0 where
   pub steps : ℕ
   pub few : steps ≤ suc (last r)
-  pub chain : Marched means reads (λ before after. after ≡ before) r g steps s h
+  pub chain : Marched K (λ before after. after ≡ before) r g steps s h
 
 -- After k steps a march that is on its way is within N, and every set point that it left behind is above the margin;
 -- k is at most i, so a march at its end took at most N + 1 steps. It ended as the distances say.
@@ -35,7 +35,7 @@ Certain d r k (ended o) = (k ≤ suc (last r)) × Ends d r o
 
 -- A march stepped by hand: between two steps the gauge may become any gauge that holds what it must and means the
 -- same, by whatever calls. It goes on as the distances say all the same.
-abbrev pub ByHandLaw : {G : Type 0} → (G → Type 0) → (G → Pt → ℤ) → (G → Pt → Reading → G → Type 0) → Type 0
-ByHandLaw {G} holds means reads =
-    (m : Motion) (g h : G) (k : ℕ) (s : State) → holds g → Marched means reads (Kept holds means) (route m) g k s h
-    → Kept holds means g h × Certain (means g) (route m) k s
+abbrev pub ByHandLaw : {G : Type 0} → Gauge G → Type 0
+ByHandLaw {G} K =
+    (m : Motion) (g h : G) (k : ℕ) (s : State) → K.holds g → Marched K (Kept K.holds K.means) (route m) g k s h
+    → Kept K.holds K.means g h × Certain (K.means g) (route m) k s

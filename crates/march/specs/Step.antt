@@ -1,9 +1,9 @@
 -- One step of a march. Assumes nothing.
-use Rattle.std.specs.Prelude.{◌≡◌, ℕ, ◌+◌, ◌-◌, ◌/◌, cond, ℤ, pos, ◌-ℤ◌, int_le, nat_le, unsigned_abs}
+use Rattle.std.specs.Prelude.{◌≡◌, ℕ, ◌+◌, ◌-◌, ◌/◌, cond, ℤ, pos, Some, None, ◌-ℤ◌, int_le, nat_le, unsigned_abs}
 use Rattle.space.specs.Pt.{Pt}
 use Rattle.march.specs.Route.{Route, last, point_at}
 use Rattle.march.specs.State.{State, moving, ended}
-use Rattle.march.specs.declared.outcome.Outcome.TheVariants.{Met, Clear}
+use Rattle.march.specs.declared.gauge.Gauge.{Ghosts as Gauge}
 use Rattle.march.specs.declared.reading.Reading.{Reading}
 use Rattle.march.specs.declared.reading.Reading.TheVariants.{Exact, Bound}
 
@@ -20,16 +20,16 @@ stride margin v = 1 + (unsigned_abs (v -ℤ pos margin) - 1) / 2
 abbrev pub state_after : Route → ℕ → ℤ → State
 state_after r i v =
     let next = i + stride r.margin v in
-    cond (int_le v (pos r.margin)) (ended (Met i v)) (cond (nat_le next (last r)) (moving r next) (ended Clear))
+    cond (int_le v (pos r.margin)) (ended (Some (record { number = i; distance = v }))) (cond (nat_le next (last r)) (moving r next) (ended None))
 
 -- v is what a gauge g gives a step at p, by a quick reading that leaves h, and a sure reading of h, which moves nothing
-pub record Valued {G : Type 0} (means : G → Pt → ℤ) (reads : G → Pt → Reading → G → Type 0) (margin : ℕ) (p : Pt) (g h : G) (v : ℤ) : Type 0 where
+pub record Valued {G : Type 0} (K : Gauge G) (margin : ℕ) (p : Pt) (g h : G) (v : ℤ) : Type 0 where
   pub reading : Reading
-  pub took : reads g p reading h
-  pub by : v ≡ gone_by margin reading (means h p)
+  pub took : K.reads g p reading h
+  pub by : v ≡ gone_by margin reading (K.means h p)
 
 -- a step at set point i takes the gauge from g to h and the march to s
-pub record Stepped {G : Type 0} (means : G → Pt → ℤ) (reads : G → Pt → Reading → G → Type 0) (r : Route) (i : ℕ) (g h : G) (s : State) : Type 0 where
+pub record Stepped {G : Type 0} (K : Gauge G) (r : Route) (i : ℕ) (g h : G) (s : State) : Type 0 where
   pub value : ℤ
-  pub valued : Valued means reads r.margin (point_at r i) g h value
+  pub valued : Valued K r.margin (point_at r i) g h value
   pub so : s ≡ state_after r i value

@@ -5,7 +5,7 @@ ghost use Rattle.march.specs.State.{moving, moving_state};
 
 use crate::motion::Motion;
 use crate::moving::{Ended, Moving};
-use crate::outcome::Outcome;
+use crate::outcome::Met;
 
 impl Moving {
     // A march at its first set point.
@@ -17,8 +17,8 @@ impl Moving {
 }
 
 impl Ended {
-    // How the march ended.
-    pub fn result(self) -> Outcome
+    // Where the march ended met; none where it ended clear.
+    pub fn result(self) -> Option<Met>
         ensures { result ≡ self.outcome }
     {
         self.outcome

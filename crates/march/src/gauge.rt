@@ -19,11 +19,6 @@ pub trait Gauge {
     // what a quick reading at a point answers, and what gauge it leaves behind
     ghost reads: { Self → Pt → Reading → Self → Type 0 };
 
-    // The laws of the kind: every gauge that holds what it must obeys the distance law, and every quick reading
-    // keeps that and the meaning, and tells right. The function answers 0.
-    fn laws() -> u8
-        ensures { GaugeLaws holds means reads };
-
     // exactly the distance; it moves nothing
     fn sure(&self, p: Point) -> i32
         requires { holds self.now }
@@ -34,4 +29,8 @@ pub trait Gauge {
         requires { holds self.old }
         ensures read { reads self.old (at p) result self.new }
         ensures kept { Kept holds means self.old self.new };
+
+    // every gauge that holds what it must obeys the distance law, and every quick reading keeps that and the meaning,
+    // and tells right
+    ghost laws: { GaugeLaws holds means reads };
 }

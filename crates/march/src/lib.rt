@@ -2,6 +2,7 @@
 #![tactic(auto)]
 
 pub mod begin;
+pub mod display;
 pub mod gauge;
 pub mod motion;
 pub mod motions;

@@ -13,17 +13,13 @@ impl Motion {
         ensures { seen result ≡ motion_outcome (triple from) (triple to) margin }
     {
         let from = Point::new(from[0], from[1], from[2])?;
-        let to = match Point::new(to[0], to[1], to[2]) {
-            Ok(point) => point,
-            Err(refusal) => return Err(Refusal::Outside(3 + refusal.place())),
+        let to = Point::new(to[0], to[1], to[2]).map_err(|refusal| Refusal::Outside(
+            3 + refusal.place(),
+        ))?;
+        let margin = match u16::try_from(margin) {
+            Ok(margin) if margin <= 4095 => margin,
+            _ => return Err(Refusal::Outside(7)),
         };
-        if margin < 0 || 4095 < margin {
-            return Err(Refusal::Outside(7));
-        }
-        Ok(Motion {
-            from,
-            to,
-            margin: margin as u16,
-        })
+        Ok(Motion { from, to, margin })
     }
 }

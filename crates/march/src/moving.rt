@@ -4,7 +4,7 @@ ghost use Rattle.setpoints.specs.SetPoint.{reach};
 ghost use Rattle.space.specs.At.{at};
 
 use crate::motion::Motion;
-use crate::outcome::Outcome;
+use crate::outcome::Met;
 
 // A march on its way: the number of the set point that it looks at next, which is never past the last.
 // It can be stepped and nothing else, and a step uses it up.
@@ -18,12 +18,5 @@ pub struct Moving {
 // A march at its end. It can tell its result and nothing else.
 #[derive(Drop)]
 pub struct Ended {
-    pub(crate) outcome: Outcome,
-}
-
-// What a step makes of a march.
-#[derive(Drop)]
-pub enum Step {
-    On(Moving),
-    Over(Ended),
+    pub(crate) outcome: Option<Met>,
 }

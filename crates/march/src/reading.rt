@@ -1,5 +1,6 @@
 // What a gauge answers. This file holds the type alone, so that the specs can name it.
 
+// Both cases are answers, so neither is an absence or an error.
 #[derive(Clone, Copy, PartialEq, Eq, Debug)]
 pub enum Reading {
     // the distance itself

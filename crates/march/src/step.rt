@@ -7,16 +7,17 @@ ghost use Rattle.march.specs.Step.{Valued, state_after, Stepped};
 ghost use Rattle.space.specs.At.{at};
 
 use crate::gauge::Gauge;
-use crate::moving::{Ended, Moving, Step};
-use crate::outcome::Outcome;
+use crate::moving::{Ended, Moving};
+use crate::outcome::Met;
 use crate::reading::Reading;
 use space::point::Point;
+use std::ops::ControlFlow;
 
 impl Moving {
     // Looks at the next set point: the march ends met or clear, or goes on from a later set point.
-    pub fn step<G: Gauge>(self, gauge: &mut G) -> Step
+    pub fn step<G: Gauge>(self, gauge: &mut G) -> ControlFlow<Ended, Moving>
         requires { G.holds gauge.old }
-        ensures stepped { Stepped G.means G.reads (route self.motion) self.number gauge.old gauge.new (state_of result) }
+        ensures stepped { Stepped G.Gauge (route self.motion) self.number gauge.old gauge.new (state_of result) }
         ensures kept { Kept G.holds G.means gauge.old gauge.new }
     {
         let point = self.motion.set_point(self.number);
@@ -25,28 +26,26 @@ impl Moving {
     }
 
     // The march after a set point at which it went by this value.
-    fn after(self, value: i32) -> Step
+    fn after(self, value: i32) -> ControlFlow<Ended, Moving>
         ensures { state_of result ≡ state_after (route self.motion) self.number value }
     {
         let margin = i32::from(self.motion.margin);
         if value <= margin {
-            return Step::Over(Ended {
-                outcome: Outcome::Met {
+            return ControlFlow::Break(Ended {
+                outcome: Some(Met {
                     number: self.number,
                     distance: value,
-                },
+                }),
             });
         }
         let next = u32::from(self.number) + 1 + (value.abs_diff(margin) - 1) / 2;
         if next <= u32::from(self.motion.last()) {
-            Step::On(Moving {
+            ControlFlow::Continue(Moving {
                 motion: self.motion,
                 number: next as u16,
             })
         } else {
-            Step::Over(Ended {
-                outcome: Outcome::Clear,
-            })
+            ControlFlow::Break(Ended { outcome: None })
         }
     }
 }
@@ -54,7 +53,7 @@ impl Moving {
 // The value that a step goes by: the quick reading, or the sure one where that is a bound not above the margin.
 fn value_at<G: Gauge>(gauge: &mut G, point: Point, margin: u16) -> i32
     requires { G.holds gauge.old }
-    ensures value { Valued G.means G.reads margin (at point) gauge.old gauge.new result }
+    ensures value { Valued G.Gauge margin (at point) gauge.old gauge.new result }
     ensures kept { Kept G.holds G.means gauge.old gauge.new }
 {
     match gauge.quick(point) {

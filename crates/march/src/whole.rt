@@ -7,7 +7,8 @@ ghost use Rattle.march.specs.State.{ended};
 
 use crate::gauge::Gauge;
 use crate::motion::Motion;
-use crate::moving::{Ended, Moving, Step};
+use crate::moving::{Ended, Moving};
+use std::ops::ControlFlow;
 
 // A march from its beginning, with every step to its end. It ends as the distances say, and so does any march that is
 // begun and stepped by hand, whatever happens between the steps to the gauge or to another of the same meaning.
@@ -15,15 +16,14 @@ pub fn march<G: Gauge>(motion: Motion, gauge: &mut G) -> Ended
     requires { G.holds gauge.old }
     ensures ends { Ends (G.means gauge.old) (route motion) result.outcome }
     ensures kept { Kept G.holds G.means gauge.old gauge.new }
-    ensures whole { Whole G.means G.reads (route motion) gauge.old (ended result.outcome) gauge.new }
-    ensures by_hand { ByHandLaw G.holds G.means G.reads }
+    ensures whole { Whole G.Gauge (route motion) gauge.old (ended result.outcome) gauge.new }
+    ensures by_hand { ByHandLaw G.Gauge }
 {
-    G::laws();
     let mut moving = Moving::begin(motion);
     loop {
         match moving.step(gauge) {
-            Step::On(next) => moving = next,
-            Step::Over(ended) => return ended,
+            ControlFlow::Continue(next) => moving = next,
+            ControlFlow::Break(ended) => return ended,
         }
     }
 }

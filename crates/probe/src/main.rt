@@ -2,7 +2,7 @@
 #![tactic(auto)]
 
 use anyhow::anyhow;
-use clearance::answer::Answer;
+use clearance::answer::{Answer, Fault};
 use clearance::script::answer;
 use joints::joint::Joint;
 use records::make::{CatalogueMake, Make, ProbedMake};
@@ -14,23 +14,19 @@ use solids::solid::Solid;
 use std::fs;
 use std::io::{BufRead, BufReader};
 
+// The answer to the bytes of a line; bytes that are no UTF-8 are no call.
+fn reply<S: Solid, J: Joint>(scene: &Scene<S, J>, line: &[u8]) -> Result<Answer, Fault> {
+    let text = std::str::from_utf8(line).map_err(|_| Fault::Bad)?;
+    answer(scene, text)
+}
+
 // Answers each line of standard input. A line ends with a line feed, and nothing else is cut off it.
 fn serve<S: Solid, J: Joint>(rt: &HostRuntime, scene: &Scene<S, J>) -> anyhow::Result<()> {
-    let mut input = BufReader::new(rt.alloc(), rt.stdin())?;
-    let mut line = Vec::new(rt.alloc());
-    for _ in 0..u64::MAX {
-        line.clear();
-        if input.read_until(b'\n', &mut line)? == 0 {
-            break;
+    for line in BufReader::new(rt.alloc(), rt.stdin())?.split(rt.alloc(), b'\n') {
+        match reply(scene, line?.as_slice()) {
+            Ok(answer) => println!(rt; "{answer}")?,
+            Err(fault) => println!(rt; "{fault}")?,
         }
-        if line.last() == Some(&b'\n') {
-            let _ = line.pop();
-        }
-        let reply = match std::str::from_utf8(line.as_slice()) {
-            Ok(text) => answer(scene, text),
-            Err(_) => Answer::Bad,
-        };
-        println!(rt; "{reply}")?;
     }
     Ok(())
 }
@@ -44,8 +40,8 @@ fn run<M: Make>(
     match read::<M>(bytes, room.tables()) {
         Ok(scene) => serve(rt, &scene),
         Err(unread) => {
-            let reply = Answer::No(unread.refusal);
-            println!(rt; "{reply}")?;
+            let fault = Fault::from(unread.refusal);
+            println!(rt; "{fault}")?;
             Ok(())
         }
     }

@@ -21,9 +21,12 @@ struct RawJoint {
 fn read_raw_joint(bytes: &[u8]) -> Option<RawJoint>
     ensures { Reads raw_joint_record bytes.now result }
 {
-    let [form_low, form_high, k_low, k_high] = bytes else {
+    let [form_low, form_high, k_low, k_high, rest @ ..] = bytes else {
         return None;
     };
+    if !rest.is_empty() {
+        return None;
+    }
     Some(RawJoint {
         form: u16::from_le_bytes([*form_low, *form_high]),
         k: u16::from_le_bytes([*k_low, *k_high]),

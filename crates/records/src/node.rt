@@ -22,9 +22,12 @@ impl Record for Node {
     ghost short = { lit≤ tt };
 
     fn read(bytes: &[u8]) -> Option<Node> {
-        let [kind, turned, low, high] = bytes else {
+        let [kind, turned, low, high, rest @ ..] = bytes else {
             return None;
         };
+        if !rest.is_empty() {
+            return None;
+        }
         let kind = NodeKind::try_from(*kind).ok()?;
         let turned = match *turned {
             0 => false,

@@ -22,10 +22,7 @@ pub(crate) fn read_point(bytes: &[u8]) -> Option<Point>
 pub(crate) fn point(x: i16, y: i16, z: i16) -> Option<Point>
     ensures { Reads at (record { x = x; y = y; z = z }) result }
 {
-    if x < -8192 || x > 8191 || y < -8192 || y > 8191 || z < -8192 || z > 8191 {
-        return None;
-    }
-    Some(Point { x, y, z })
+    Point::new(i32::from(x), i32::from(y), i32::from(z)).ok()
 }
 
 pub(crate) fn point_bytes(p: Point) -> [u8; 6]

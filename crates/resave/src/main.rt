@@ -1,7 +1,7 @@
 // Reads each scene file that it is given by name and writes it back beside it, as NAME.copy.
 #![tactic(auto)]
 
-use clearance::answer::Answer;
+use clearance::answer::Fault;
 use records::make::{CatalogueMake, Make, ProbedMake};
 use room::room::Room;
 use scenefile::make_number::make_number;
@@ -29,7 +29,7 @@ fn resave(rt: &HostRuntime, name: &str) -> anyhow::Result<()> {
             println!(rt; "{name}: {n} bytes written, the same: {same}")?;
         }
         Err(e) => {
-            let reply = Answer::No(e);
+            let reply = Fault::from(e);
             println!(rt; "{name}: {reply}")?;
         }
     }

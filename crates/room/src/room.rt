@@ -31,7 +31,9 @@ impl<S: Default + Copy, J: Default + Copy> Room<S, J> {
             list,
         })
     }
+}
 
+impl<S, J> Room<S, J> {
     // The tables, lent for one scene.
     pub fn tables(&mut self) -> Tables<'_, S, J>
         ensures solids { result.solids.now ≡ self.old.solids.items }

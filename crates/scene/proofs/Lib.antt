@@ -1,11 +1,11 @@
 pub mod CutLoops
 pub mod Freeing
+pub mod Joins
 pub mod Layouts
 pub mod Listings
 pub mod Loops
 pub mod Names
 pub mod Same
-pub mod Stacks
 pub mod Steps
 pub mod Tables
 pub mod Wholes

@@ -1,6 +1,6 @@
 pub mod Keeping
 pub mod Laid
 pub mod Lists
+pub mod Meant
 pub mod Pruned
-pub mod Stack
 pub mod Used

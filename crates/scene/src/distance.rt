@@ -1,11 +1,10 @@
 // The distance of a checked scene.
 ghost use Rattle.std.specs.Prelude.{map};
+ghost use Rattle.scene.specs.Meant.{placed};
 ghost use Rattle.space.specs.At.{at};
 ghost use Rattle.tree.specs.Distance.{Distance};
-ghost use Rattle.tree.specs.Parts.{parts};
 ghost use Rattle.tree.specs.Rows.{node_symbol};
 
-use crate::evaluate::evaluate;
 use crate::scene::Scene;
 use joints::joint::Joint;
 use solids::solid::Solid;
@@ -14,8 +13,8 @@ use space::point::Point;
 impl<'a, S: Solid, J: Joint> Scene<'a, S, J> {
     // The distance at a point: that of the tree which the node table spells, cuts included.
     pub fn distance(&self, p: Point) -> i32
-        ensures { Distance (parts S.dist J.radius J.fillet self.now.solids.now self.now.joints.now) (map node_symbol self.now.nodes.now) (at p) result }
+        ensures { Distance (placed S.Solid J.Joint self.now) (map node_symbol self.now.nodes.now) (at p) result }
     {
-        evaluate(self.solids, self.joints, self.list, p)
+        self.whole().value(p)
     }
 }

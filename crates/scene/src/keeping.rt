@@ -1,20 +1,9 @@
-// What happens where an operator drops out: which operand is kept, where its entries go, and its turn.
-ghost use Rattle.std.specs.Prelude.{◌≡◌, ◌+◌, ◌-◌, ◌*◌, ◌<◌, ◌≤◌, cond, [], ◌∷◌, ◌++◌, length, take, drop, nat_lt, slice_index_or, slice_range};
-ghost use Rattle.scene.specs.Keeping.{keeps_first, entry_turned_by};
-ghost use Rattle.tree.specs.Parts.{joint_radius};
+// Which operand is kept where an operator drops out.
+ghost use Rattle.std.specs.Prelude.{◌≡◌, if◌then◌else◌};
+ghost use Rattle.scene.specs.Keeping.{keeps_first};
 ghost use Rattle.tree.specs.Rows.{blend_op};
-ghost use Rattle.tree.specs.Tree.{gap};
 
-use joints::joint::Joint;
-use tree::node::{Blend, Entry};
-
-// Whether the gap of two values is above k + 2R, with k the radius of the joint of this number and R `within`.
-pub(crate) fn drops_out<J: Joint>(joints: &[J], number: u16, within: u16, a: i32, b: i32) -> bool
-    requires { number < length joints.now }
-    ensures { result ≡ nat_lt (joint_radius J.radius joints.now number + 2 * within) (gap a b) }
-{
-    a.abs_diff(b) > u32::from(joints[number as usize].radius()) + 2 * u32::from(within)
-}
+use tree::node::Blend;
 
 // A union keeps the lesser operand, a common the greater; whether that is the first.
 pub(crate) fn keeps_first(blend: Blend, a: i32, b: i32) -> bool
@@ -26,39 +15,9 @@ pub(crate) fn keeps_first(blend: Blend, a: i32, b: i32) -> bool
     }
 }
 
-// Of two blocks, from `first` to `second` and from there to `end`, one stays and lies where the first began.
-// Answers where it ends.
-pub(crate) fn keep(
-    free: &mut [Entry],
-    first: usize,
-    second: usize,
-    end: usize,
-    keep_first: bool,
-) -> usize
-    requires rising { first ≤ second }
-    requires ends { second ≤ end }
-    requires within { end ≤ length free.old }
-    ensures value { result ≡ first + cond keep_first (second - first) (end - second) }
-    ensures front { take result free.new ≡ take first free.old ++ cond keep_first (slice_range free.old first second) (slice_range free.old second end) }
-    ensures len { length free.new ≡ length free.old }
-    ensures beyond { drop end free.new ≡ drop end free.old }
+// One of two values.
+pub(crate) fn pick(first: bool, a: i32, b: i32) -> i32
+    ensures { result ≡ (if first then a else b) }
 {
-    if keep_first {
-        second
-    } else {
-        free.copy_within(second..end, first);
-        first + (end - second)
-    }
-}
-
-// The turn of the entry that ends a block is combined with the turn of the operator that drops out.
-pub(crate) fn combine(free: &mut [Entry], end: usize, turned: bool)
-    requires some { 0 < end }
-    requires within { end ≤ length free.old }
-    ensures front { (e : Entry) → take end free.new ≡ take (end - 1) free.old ++ entry_turned_by turned (slice_index_or free.old (end - 1) e) ∷ [] }
-    ensures len { length free.new ≡ length free.old }
-    ensures beyond { drop end free.new ≡ drop end free.old }
-{
-    let last = &mut free[end - 1];
-    last.turned = last.turned != turned;
+    if first { a } else { b }
 }

@@ -2,9 +2,8 @@
 #![tactic(auto)]
 
 mod block;
-mod cutting;
+mod cut;
 pub mod distance;
-mod evaluate;
 mod joining;
 mod keeping;
 pub mod lawful;
@@ -13,7 +12,6 @@ pub mod neighbourhood;
 pub mod prune;
 pub mod pruned;
 pub mod scene;
-mod stack;
 pub mod value;
 mod waiting;
 pub mod whole;

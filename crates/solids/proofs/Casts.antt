@@ -8,7 +8,6 @@ use Rattle.space.specs.FloorDiv.{floor_div}
 use Rattle.space.specs.Pt.{InRange}
 use Rattle.space.specs.Root.{root}
 use Rattle.solids.specs.Block.{excess, greatest, box_distance, positive_square}
-use Rattle.solids.specs.Bounds.{product_small}
 
 -- a number that went to its bits and back
 abbrev read_16 : ℤ → ℤ
@@ -20,17 +19,8 @@ read_32 z = to_z w32 (of_z w32 z)
 coordinate : (a : ℤ) → InRange a → read_16 a ≡ a
 coordinate a h = omega (arith, ints)
 
-pub coordinate_small : (a : ℤ) → InRange a → nat_abs (read_16 a) ≤ 8192
-coordinate_small a h = omega (arith, ints)
-
 normal : (n : ℤ) → nat_abs n ≤ 4096 → read_16 n ≡ n
 normal n h = omega (arith, ints)
-
-pub normal_small : (n : ℤ) → nat_abs n ≤ 4096 → nat_abs (read_16 n) ≤ 4096
-normal_small n h = omega (arith, ints)
-
-pub less_fits : (r : ℤ) (k : ℕ) → nat_abs r ≤ 65535 → k ≤ 65535 → SFits w32 (read_32 r -ℤ to_z w32 k)
-less_fits r k h l = omega (arith, ints)
 
 pub read_bound : (r : ℤ) → nat_abs r ≤ 65535 → nat_abs (read_32 r) ≤ 65535
 read_bound r h = omega (arith, ints)
@@ -47,9 +37,6 @@ module _ (a b e : ℤ) (h : ℕ) (i : InRange a) (j : InRange b) (l : h ≤ 8192
   excess_small : nat_abs e ≤ 16383
   excess_small = omega (arith, ints)
 
-  pub excess_passed : nat_abs (read_32 e) ≤ 16383
-  excess_passed = let k = excess_small in omega (arith, ints)
-
   pub excess_back : read_32 e ≡ excess a b h
   excess_back =
       let k = excess_small in
@@ -63,20 +50,11 @@ boxed p q r = λ i. box_distance (p i) (q i) (r i)
 wide : (z : ℤ) → SFits w16 z → read_32 (read_16 z) ≡ z
 wide z f = omega (arith, ints)
 
-pub wide_product : (n a : ℤ) → SFits w16 n → SFits w16 a → nat_abs n ≤ 4096 → nat_abs a ≤ 8192 → read_32 (read_32 (read_16 n) *ℤ read_32 (read_16 a)) ≡ n *ℤ a
-wide_product n a f g h k = rw (wide n f, wide a g) (to_z-of_z w32 (n *ℤ a) (fits (n *ℤ a) (product_small n a h k)))
-  where
-    fits : (z : ℤ) → nat_abs z ≤ 33554432 → SFits w32 z
-    fits z l = omega (arith, ints)
-
 -- a plane's three products, as they are passed and added
 pub product_read : (n a r : ℤ) → nat_abs n ≤ 4096 → InRange a → r ≡ read_16 n *ℤ read_16 a → r ≡ n *ℤ a
 product_read n a r h i q = q ∙ ap₂ ◌*ℤ◌ (normal n h) (coordinate a i)
 
 module _ (a b c : ℤ) (h : nat_abs a ≤ 33554432) (i : nat_abs b ≤ 33554432) (j : nat_abs c ≤ 33554432) where
-  pub two_fit : SFits w32 (read_32 a +ℤ read_32 b)
-  two_fit = omega (arith, ints)
-
   pub three_fit : SFits w32 (read_32 (read_32 a +ℤ read_32 b) +ℤ read_32 c)
   three_fit = omega (arith, ints)
 

@@ -24,7 +24,7 @@ impl Solid for Ball {
     ghost ranged = { ball_ranged };
 
     fn distance(&self, p: Point) -> i32 {
-        root_of(squared_distance(p, self.centre)) - self.radius as i32
+        root_of(squared_distance(p, self.centre)) - i32::from(self.radius)
     }
 }
 
@@ -39,7 +39,7 @@ impl Solid for Block {
         let x = excess(p.x, self.centre.x, self.half_x);
         let y = excess(p.y, self.centre.y, self.half_y);
         let z = excess(p.z, self.centre.z, self.half_z);
-        box_distance(x, y, z) - self.radius as i32
+        box_distance(x, y, z) - i32::from(self.radius)
     }
 }
 
@@ -51,7 +51,7 @@ impl Solid for Plane {
     ghost ranged = { plane_ranged };
 
     fn distance(&self, p: Point) -> i32 {
-        (self.along_normal(p) - self.offset).div_euclid(self.length as i32)
+        (self.along_normal(p) - self.offset).div_euclid(i32::from(self.length))
     }
 }
 
@@ -73,8 +73,8 @@ impl Solid for Drum {
     ghost ranged = { drum_ranged };
 
     fn distance(&self, p: Point) -> i32 {
-        let side = root_of(squared_across(self.axis, p, self.centre)) - self.radius as i32;
-        let end = along(self.axis, p, self.centre) as i32 - self.half_height as i32;
+        let side = root_of(squared_across(self.axis, p, self.centre)) - i32::from(self.radius);
+        let end = i32::from(along(self.axis, p, self.centre)) - i32::from(self.half_height);
         side.max(end)
     }
 }
@@ -88,10 +88,10 @@ impl Solid for Probed {
 
     fn distance(&self, p: Point) -> i32 {
         let mut near = squared_distance(p, self.centres[0]);
-        for centre in &self.centres[1..self.count as usize] {
+        for centre in &self.centres[1..usize::from(self.count)] {
             near = near.min(squared_distance(p, *centre));
         }
-        root_of(near) - self.radius as i32
+        root_of(near) - i32::from(self.radius)
     }
 }
 
@@ -115,14 +115,15 @@ fn square(a: u16) -> u32
     ensures value { result ≡ a * a }
     ensures bound { result ≤ 268402689 }
 {
-    a as u32 * a as u32
+    let a = u32::from(a);
+    a * a
 }
 
 // The distance along one axis, less the half extent.
 fn excess(a: i16, centre: i16, half: u16) -> i32
     ensures { result ≡ excess a centre half }
 {
-    a.abs_diff(centre) as i32 - half as i32
+    i32::from(a.abs_diff(centre)) - i32::from(half)
 }
 
 // A block's distance, by its excess along each axis.
@@ -157,7 +158,7 @@ fn product(n: i16, a: i16) -> i32
     ensures value { result ≡ n *ℤ a }
     ensures bound { unsigned_abs result ≤ 33554432 }
 {
-    n as i32 * a as i32
+    i32::from(n) * i32::from(a)
 }
 
 fn along(axis: Axis, p: Point, q: Point) -> u16

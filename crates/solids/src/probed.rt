@@ -4,7 +4,8 @@ ghost use Rattle.solids.specs.Unused.{unused_at_origin};
 
 use space::point::Point;
 
-// All that is at most `radius` from one of the first `count` centres; the others are the origin.
+// All that is at most `radius` from one of the first `count` centres; the others are the origin. An array and a count,
+// and no Vec: rows are copied into tables of the caller's, and the library has no heap.
 #[derive(Clone, Copy)]
 pub struct Probed {
     pub centres: [Point; 8],

@@ -9,7 +9,7 @@ use std::num::saturating_f64_to_u32;
 pub fn floor_root(n: u32) -> u32
     ensures { result ≡ root n }
 {
-    let guess = saturating_f64_to_u32((n as f64).sqrt());
+    let guess = saturating_f64_to_u32(f64::from(n).sqrt());
     if guess < 65535 && guess * guess <= n && n < (guess + 1) * (guess + 1) {
         guess
     } else {

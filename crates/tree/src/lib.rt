@@ -1,5 +1,5 @@
 // The theory of scenes: trees of solids, their distance, and their post-order lists. Each function
-// answers 0; its contract is a theorem about the definitions that the code's contracts cite.
+// does nothing; its contract is a theorem about the definitions that the code's contracts cite.
 #![tactic(auto)]
 
 ghost use Rattle.tree.specs.Far.{FarLaw};
@@ -15,73 +15,53 @@ pub mod node;
 pub mod node_kind;
 
 // A list has no fault exactly when it spells a tree of depth 64 at most, and it spells one tree only.
-pub fn order_law() -> u8
+pub fn order_law()
     ensures { OrderLaw }
-{
-    0
-}
+{}
 
 // The whole list spells the whole tree, and the whole tree has the tree's distance at every point.
-pub fn whole_law() -> u8
+pub fn whole_law()
     ensures { WholeLaw }
-{
-    0
-}
+{}
 
 // The entries that a node table's rows are made into are the symbols of the whole list.
-pub fn entries_law() -> u8
+pub fn entries_law()
     ensures { EntriesLaw }
-{
-    0
-}
+{}
 
 // Union and common are monotone in both operands and shift with them; a cut is a common.
-pub fn operators_law() -> u8
+pub fn operators_law()
     ensures { OperatorsLaw }
-{
-    0
-}
+{}
 
 // Every tree of lawful parts obeys the distance law.
-pub fn value_law() -> u8
+pub fn value_law()
     ensures { ValueLaw }
-{
-    0
-}
+{}
 
 // A pruned tree has the tree's value at every point within R of the centre, however many operators drop
 // out one above the other.
-pub fn prune_law() -> u8
+pub fn prune_law()
     ensures { PruneLaw }
-{
-    0
-}
+{}
 
 // Twins have equal values at every point, and equally long lists.
-pub fn twin_law() -> u8
+pub fn twin_law()
     ensures { TwinLaw }
-{
-    0
-}
+{}
 
 // Pruning takes twins to twins.
-pub fn twins_pruned() -> u8
+pub fn twins_pruned()
     ensures { TwinsPruned }
-{
-    0
-}
+{}
 
 // The constant of a far cell is not 0, of the distance's sign and not greater in size, at every point within
 // R of the centre.
-pub fn far_law() -> u8
+pub fn far_law()
     ensures { FarLaw }
-{
-    0
-}
+{}
 
 // Pruning never lengthens a list or deepens its stack.
-pub fn smaller_law() -> u8
+pub fn smaller_law()
     ensures { SmallerLaw }
-{
-    0
-}
+{}

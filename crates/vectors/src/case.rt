@@ -1,59 +1,37 @@
-// A case, and the count of what came of cases.
+// A case, and what can be asked of the scenes of cases.
+use joints::joint::Joint;
+use records::make::Make;
+use scene::scene::Scene;
+use solids::solid::Solid;
+use std::alloc::Global;
 
-// What is asked of a scene.
-#[derive(Clone, Copy)]
-pub(crate) enum Ask {
-    // the answers to the lines of a script, and the file itself, written back
-    Lines,
-    // what paths lead to
-    Paths,
-    // how marches end
-    Marches,
-}
-
-// A file, and what is asked of it: a line each, each with a line feed, with what each comes to. A refused file has
+// A file, and a script for it: a line each, each with a line feed, with what each comes to. A refused file has
 // its refusal as the only answer.
 #[derive(Clone, Copy)]
 pub(crate) struct Case<'a> {
     pub(crate) name: &'a str,
-    pub(crate) ask: Ask,
     pub(crate) bytes: &'a [u8],
     pub(crate) script: &'a str,
     pub(crate) wanted: &'a str,
 }
 
-// How many answers were compared, for how many some further thing holds (a file was written back, a path ends at a
-// far cell, a march met something), and how many differ.
-#[derive(Clone, Copy)]
-pub(crate) struct Tally {
-    pub(crate) all: u32,
-    pub(crate) some: u32,
-    pub(crate) differ: u32,
-}
-
-impl Tally {
-    pub(crate) fn new() -> Tally {
-        Tally {
-            all: 0,
-            some: 0,
-            differ: 0,
-        }
-    }
-
-    // Counts one line, and prints it where it does not come to what is wanted.
-    pub(crate) fn count(
+// What is asked of scenes. Each kind counts for how many answers some further thing holds.
+pub(crate) trait Ask: Drop {
+    // The text that a line comes to.
+    fn answer<S: Solid, J: Joint>(
         &mut self,
-        rt: &HostRuntime,
-        name: &str,
+        heap: Global,
+        scene: &Scene<'_, S, J>,
         line: &str,
-        wanted: &str,
-        same: bool,
-    ) -> anyhow::Result<()> {
-        self.all = self.all.saturating_add(1);
-        if !same {
-            self.differ = self.differ.saturating_add(1);
-            println!(rt; "{name}: '{line}' does not come to {wanted}")?;
-        }
-        Ok(())
+    ) -> anyhow::Result<String>;
+
+    // Whether the scene's file is right, where that is asked.
+    fn file_is_right<M: Make>(
+        &mut self,
+        _heap: Global,
+        _scene: &Scene<'_, M::Solid, M::Joint>,
+        _bytes: &[u8],
+    ) -> anyhow::Result<bool> {
+        Ok(true)
     }
 }

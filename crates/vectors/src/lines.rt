@@ -1,57 +1,42 @@
 // Script lines with their answers, and files written back.
-use crate::case::{Case, Tally};
-use clearance::answer::Answer;
+use crate::case::Ask;
 use clearance::script::answer;
 use joints::joint::Joint;
 use records::make::Make;
 use scene::scene::Scene;
 use solids::solid::Solid;
+use std::alloc::Global;
 use writer::write::write;
 
-// Compares one answer.
-pub(crate) fn compare(
-    rt: &HostRuntime,
-    name: &str,
-    line: &str,
-    reply: Answer,
-    wanted: &str,
-    tally: &mut Tally,
-) -> anyhow::Result<()> {
-    let text = format!(in rt.alloc(); "{reply}")?;
-    tally.count(rt, name, line, wanted, text.as_bytes() == wanted.as_bytes())
+// The answers to the lines of a script, and the file itself; how many files were written back.
+#[derive(Clone, Copy)]
+pub(crate) struct Lines {
+    pub(crate) written: u32,
 }
 
-// Answers the lines of a case.
-pub(crate) fn answer_lines<S: Solid, J: Joint>(
-    rt: &HostRuntime,
-    scene: &Scene<S, J>,
-    case: Case<'_>,
-    tally: &mut Tally,
-) -> anyhow::Result<()> {
-    for (line, wanted) in case.script.split('\n').zip(case.wanted.split('\n')) {
-        // what stands behind the last line feed is no line
-        if !wanted.is_empty() {
-            compare(rt, case.name, line, answer(scene, line), wanted, tally)?;
-        }
+impl Ask for Lines {
+    fn answer<S: Solid, J: Joint>(
+        &mut self,
+        heap: Global,
+        scene: &Scene<'_, S, J>,
+        line: &str,
+    ) -> anyhow::Result<String> {
+        Ok(match answer(scene, line) {
+            Ok(answer) => format!(in heap; "{answer}")?,
+            Err(fault) => format!(in heap; "{fault}")?,
+        })
     }
-    Ok(())
-}
 
-// Writes a scene back and compares the bytes with the file's.
-pub(crate) fn write_back<M: Make>(
-    rt: &HostRuntime,
-    scene: &Scene<'_, M::Solid, M::Joint>,
-    case: Case<'_>,
-    tally: &mut Tally,
-) -> anyhow::Result<()> {
-    tally.some = tally.some.saturating_add(1);
-    let mut out = case.bytes.to_vec(rt.alloc())?;
-    out.fill(0);
-    let _ = write::<M>(scene, out.as_mut_slice());
-    if out.as_slice() != case.bytes {
-        let name = case.name;
-        tally.differ = tally.differ.saturating_add(1);
-        println!(rt; "{name}: written back, its bytes differ")?;
+    // Writes the scene back and compares the bytes with the file's.
+    fn file_is_right<M: Make>(
+        &mut self,
+        heap: Global,
+        scene: &Scene<'_, M::Solid, M::Joint>,
+        bytes: &[u8],
+    ) -> anyhow::Result<bool> {
+        self.written = self.written.saturating_add(1);
+        let mut out = vec![in heap; 0; bytes.len()]?;
+        let _ = write::<M>(scene, out.as_mut_slice());
+        Ok(out.as_slice() == bytes)
     }
-    Ok(())
 }

@@ -3,22 +3,19 @@
 // motions with how their marches end.
 #![tactic(auto)]
 
-use crate::case::{Ask, Case, Tally};
-use crate::lines::{answer_lines, compare, write_back};
-use crate::marches::make_marches;
-use crate::path_cases::follow_paths;
+use crate::case::{Ask, Case};
+use crate::lines::Lines;
+use crate::marches::Marches;
+use crate::path_cases::Paths;
+use crate::replay::Replay;
 use anyhow::anyhow;
-use clearance::answer::Answer;
-use records::make::{CatalogueMake, Make, ProbedMake};
-use room::room::{Room, catalogue_room, probed_room};
-use scenefile::make_number::make_number;
-use scenefile::read::read;
 use std::fs;
 
 mod case;
 mod lines;
 mod marches;
 mod path_cases;
+mod replay;
 
 // how many scenes of each kind there are
 const SCENES: u32 = 48;
@@ -27,64 +24,33 @@ const PATHS: u32 = 22;
 
 const MARCHES: u32 = 13;
 
-// Reads the file of a case and asks of it what the case does; a refusal is its only answer.
-fn replay<M: Make>(
-    rt: &HostRuntime,
-    case: Case<'_>,
-    room: &mut Room<M::Solid, M::Joint>,
-    tally: &mut Tally,
-) -> anyhow::Result<()> {
-    match read::<M>(case.bytes, room.tables()) {
-        Ok(scene) => match case.ask {
-            Ask::Lines => {
-                write_back::<M>(rt, &scene, case, tally)?;
-                answer_lines(rt, &scene, case, tally)
-            }
-            Ask::Paths => follow_paths(rt, &scene, case, tally),
-            Ask::Marches => make_marches(rt, &scene, case, tally),
-        },
-        Err(unread) => compare(
-            rt,
-            case.name,
-            "",
-            Answer::No(unread.refusal),
-            case.wanted,
-            tally,
-        ),
-    }
-}
-
-fn replay_any(rt: &HostRuntime, case: Case<'_>, tally: &mut Tally) -> anyhow::Result<()> {
-    match make_number(case.bytes) {
-        Some(2) => replay::<ProbedMake>(rt, case, &mut probed_room(rt.alloc())?, tally),
-        _ => replay::<CatalogueMake>(rt, case, &mut catalogue_room(rt.alloc())?, tally),
-    }
-}
-
 // Replays this many scenes of a kind, whose files are named for it.
-fn scenes(rt: &HostRuntime, kind: &str, ask: Ask, count: u32) -> anyhow::Result<Tally> {
+fn scenes<'r, A: Ask>(
+    rt: &'r HostRuntime,
+    kind: &str,
+    ask: A,
+    count: u32,
+) -> anyhow::Result<Replay<'r, A>> {
     let heap = rt.alloc();
-    let mut tally = Tally::new();
+    let mut replay = Replay::new(rt, ask);
     for k in 0..count {
         let name = format!(in heap; "{kind}-{k:02}")?;
         let bytes = fs::read(rt, format!(in heap; "{name}.bin")?)?;
         let script = fs::read_to_string(rt, format!(in heap; "{name}.in")?)?;
         let wanted = fs::read_to_string(rt, format!(in heap; "{name}.out")?)?;
-        let case = Case {
+        replay.case(Case {
             name: name.as_str(),
-            ask,
             bytes: bytes.as_slice(),
             script: script.as_str(),
             wanted: wanted.as_str(),
-        };
-        replay_any(rt, case, &mut tally)?;
+        })?;
     }
-    Ok(tally)
+    Ok(replay)
 }
 
 // The files stand one after another, each behind its length as four bytes, the low one first.
-fn damaged(rt: &HostRuntime) -> anyhow::Result<Tally> {
-    let mut tally = Tally::new();
+fn damaged(rt: &HostRuntime) -> anyhow::Result<Replay<'_, Lines>> {
+    let mut replay = Replay::new(rt, Lines { written: 0 });
     let all = fs::read(rt, "damaged.bin")?;
     let wanted = fs::read_to_string(rt, "damaged.out")?;
     let mut left = all.as_slice();
@@ -98,27 +64,45 @@ fn damaged(rt: &HostRuntime) -> anyhow::Result<Tally> {
         }
         let (bytes, more) = rest.split_at(size);
         left = more;
-        let case = Case {
+        replay.case(Case {
             name: "damaged file",
-            ask: Ask::Lines,
             bytes,
             script: "",
             wanted: refusal,
-        };
-        replay_any(rt, case, &mut tally)?;
+        })?;
     }
-    Ok(tally)
+    Ok(replay)
 }
 
 fn run(rt: &HostRuntime) -> anyhow::Result<()> {
-    let Tally { all, some, differ } = scenes(rt, "scene", Ask::Lines, SCENES)?;
-    println!(rt; "scenes: {all} lines answered, {some} files written back, {differ} differ")?;
-    let Tally { all, some, differ } = damaged(rt)?;
-    println!(rt; "damaged files: {all} refused, {some} accepted, {differ} differ")?;
-    let Tally { all, some, differ } = scenes(rt, "path", Ask::Paths, PATHS)?;
-    println!(rt; "paths: {all} followed, {some} of them to far cells, {differ} differ")?;
-    let Tally { all, some, differ } = scenes(rt, "march", Ask::Marches, MARCHES)?;
-    println!(rt; "marches: {all} made, {some} of them met, {differ} differ")?;
+    let Replay {
+        ask: Lines { written },
+        all,
+        differ,
+        ..
+    } = scenes(rt, "scene", Lines { written: 0 }, SCENES)?;
+    println!(rt; "scenes: {all} lines answered, {written} files written back, {differ} differ")?;
+    let Replay {
+        ask: Lines { written },
+        all,
+        differ,
+        ..
+    } = damaged(rt)?;
+    println!(rt; "damaged files: {all} refused, {written} accepted, {differ} differ")?;
+    let Replay {
+        ask: Paths { far },
+        all,
+        differ,
+        ..
+    } = scenes(rt, "path", Paths { far: 0 }, PATHS)?;
+    println!(rt; "paths: {all} followed, {far} of them to far cells, {differ} differ")?;
+    let Replay {
+        ask: Marches { met },
+        all,
+        differ,
+        ..
+    } = scenes(rt, "march", Marches { met: 0 }, MARCHES)?;
+    println!(rt; "marches: {all} made, {met} of them met, {differ} differ")?;
     Ok(())
 }
 

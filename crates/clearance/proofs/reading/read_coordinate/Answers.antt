@@ -13,34 +13,34 @@ kept n small = omega (arith, ints)
 
 pub overflow_cast-result : goal.overflow_cast-result
 overflow_cast-result c =
-    let small : c.in-Some-read_number.n < 100000 = number_small _ _ (sym c.in-Some-read_number.ensures) in
+    let small : c.in_ok-read_number-in-Some.field-0 < 100000 = number_small _ _ (sym c.in_ok-read_number-in-Some.ensures) in
     search rules
 
 pub overflow_sub-result : goal.overflow_sub-result
 overflow_sub-result c =
-    let small : c.in-Some-read_number.n < 100000 = number_small _ _ (sym c.in-Some-read_number.ensures) in
+    let small : c.in_ok-read_number-in-Some.field-0 < 100000 = number_small _ _ (sym c.in_ok-read_number-in-Some.ensures) in
     search rules
 
-pub overflow_cast-result-in-Some-read_number-2 : goal.overflow_cast-result-in-Some-read_number-2
-overflow_cast-result-in-Some-read_number-2 c =
-    let small : c.in-Some-read_number-2.n < 100000 = number_small _ _ (sym c.in-Some-read_number-2.ensures) in
+pub overflow_cast-result-in-None : goal.overflow_cast-result-in-None
+overflow_cast-result-in-None c =
+    let small : c.in_ok-read_number-in-None.field-0 < 100000 = number_small _ _ (sym c.in_ok-read_number-in-None.ensures) in
     search rules
 
-pub returns-in-Some-read_number : goal.returns-in-Some-read_number
-returns-in-Some-read_number c =
+pub returns-in_ok-read_number-in-Some : goal.returns-in_ok-read_number-in-Some
+returns-in_ok-read_number-in-Some c =
     let minus = strip_prefix_char 45 c.args.field.now (Some c.in-Some.digits) c.in-Some.ensures.cases (lit< tt) in
-    let read = c.in-Some-read_number.ensures in
+    let read = c.in_ok-read_number-in-Some.ensures in
     ap (λ (z : ℤ). Some z) (negated _ (number_small _ _ (sym read)))
     ∙ ap (signed_by (λ n. neg_ℤ (pos n))) read
     ∙ sym (coordinate_minus _ _ minus)
 
-pub returns-in-Some-read_number-2 : goal.returns-in-Some-read_number-2
-returns-in-Some-read_number-2 c =
+pub returns-in_ok-read_number-in-None : goal.returns-in_ok-read_number-in-None
+returns-in_ok-read_number-in-None c =
     let plain = strip_prefix_char 45 c.args.field.now None c.in-None.ensures.cases (lit< tt) in
-    let read = c.in-Some-read_number-2.ensures in
+    let read = c.in_ok-read_number-in-None.ensures in
     ap (λ (z : ℤ). Some z) (kept _ (number_small _ _ (sym read))) ∙ ap (signed_by pos) read ∙ sym (coordinate_plain _ plain)
 
-pub returns-in-None-read_number-2 : goal.returns-in-None-read_number-2
-returns-in-None-read_number-2 c =
+pub returns-in_err-read_number-in-None : goal.returns-in_err-read_number-in-None
+returns-in_err-read_number-in-None c =
     let plain = strip_prefix_char 45 c.args.field.now None c.in-None.ensures.cases (lit< tt) in
-    ap (signed_by pos) c.in-None-read_number-2.ensures ∙ sym (coordinate_plain _ plain)
+    c.from_residual-in_err-read_number-in-None.ensures ∙ ap (signed_by pos) c.in_err-read_number-in-None.ensures ∙ sym (coordinate_plain _ plain)

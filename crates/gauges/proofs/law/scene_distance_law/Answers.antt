@@ -1,4 +1,4 @@
-use Rattle.gauges.proofs.Scenes.{scene_distance_law}
+use Rattle.gauges.specs.Scenes.{scene_distance_law}
 use Rattle.gauges.proofs.law.scene_distance_law.Goals as goal
 
 pub returns : goal.returns

@@ -7,7 +7,7 @@ use Rattle.march.proofs.whole.march.Given as goal
 
 abbrev pub invariant-loop-next : goal.invariant-loop-next
 invariant-loop-next g l =
-    (k : ℕ) × Marched g.G.Gauge.means g.G.Gauge.reads (λ before after. after ≡ before) (route l.initial.moving.motion) l.initial.gauge k (moving_state l.moving) l.gauge
+    (k : ℕ) × Marched g.G.Gauge (λ before after. after ≡ before) (route l.initial.moving.motion) l.initial.gauge k (moving_state l.moving) l.gauge
 
 abbrev pub decreases-loop-next : goal.decreases-loop-next
 decreases-loop-next g l = last (route l.moving.motion) - l.moving.number

@@ -1,18 +1,7 @@
 use Rattle.cells.specs.Cells.{side}
-use Rattle.cells.proofs.Casts.{middle_read, middle_range}
+use Rattle.cells.proofs.Casts.{middle_read}
 use Rattle.cells.proofs.Levels.{side_some}
 use Rattle.cells.proofs.cell.Cell.centre.Goals as goal
-
-pub invariant_of-result : goal.invariant_of-result
-invariant_of-result c =
-    let s = c.args.self in
-    let some = side_some s.level s.level_in in
-    let e = c.side.ensures in
-    record {
-      x_in = middle_range (side s.level) c.side.result s.low.x some s.x_in e;
-      y_in = middle_range (side s.level) c.side.result s.low.y some s.y_in e;
-      z_in = middle_range (side s.level) c.side.result s.low.z some s.z_in e;
-    }
 
 pub returns : goal.returns
 returns c =

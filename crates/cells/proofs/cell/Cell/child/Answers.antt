@@ -5,17 +5,17 @@ use Rattle.cells.proofs.cell.Cell.child.Goals as goal
 pub part-requires : goal.part-requires
 part-requires c =
     let s = c.args.self in
-    (few_first c.args.number, four_held s.level c.child_side-extent.result s.low.x c.if-self-ge-FINEST.false s.x_in c.child_side-extent.ensures)
+    record { few = few_first c.args.number; held = four_held s.level c.child_side-extent.result s.low.x c.if-self-ge-FINEST.false s.x_in c.child_side-extent.ensures }
 
 pub part-requires-2 : goal.part-requires-2
 part-requires-2 c =
     let s = c.args.self in
-    (few_second c.args.number, four_held s.level c.child_side-extent.result s.low.y c.if-self-ge-FINEST.false s.y_in c.child_side-extent.ensures)
+    record { few = few_second c.args.number; held = four_held s.level c.child_side-extent.result s.low.y c.if-self-ge-FINEST.false s.y_in c.child_side-extent.ensures }
 
 pub part-requires-3 : goal.part-requires-3
 part-requires-3 c =
     let s = c.args.self in
-    (few_third c.args.number c.if-number-ge-CHILDREN.false, four_held s.level c.child_side-extent.result s.low.z c.if-self-ge-FINEST.false s.z_in c.child_side-extent.ensures)
+    record { few = few_third c.args.number c.if-number-ge-CHILDREN.false; held = four_held s.level c.child_side-extent.result s.low.z c.if-self-ge-FINEST.false s.z_in c.child_side-extent.ensures }
 
 pub invariant_of-result : goal.invariant_of-result
 invariant_of-result c =

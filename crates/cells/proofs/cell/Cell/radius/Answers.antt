@@ -1,7 +1,5 @@
-use Rattle.std.proofs.Common.{refl}
-use Rattle.cells.specs.Cells.{radius}
+use Rattle.cells.proofs.Levels.{radius_listed}
 use Rattle.cells.proofs.cell.Cell.radius.Goals as goal
 
 pub returns : goal.returns
-unfolding radius
-returns c = refl
+returns c = rw c.from.ensures (radius_listed c.args.self.level)

@@ -1,7 +1,5 @@
-use Rattle.std.proofs.Common.{refl}
-use Rattle.cells.specs.Cells.{side}
+use Rattle.cells.proofs.Levels.{side_listed}
 use Rattle.cells.proofs.cell.Cell.side.Goals as goal
 
 pub returns : goal.returns
-unfolding side
-returns c = refl
+returns c = rw c.from.ensures (side_listed c.args.self.level)

@@ -11,13 +11,19 @@ returns-then-self-ge-FINEST c =
     ]
 
 pub place_toward-first-requires : goal.place_toward-first-requires
-place_toward-first-requires c = toward_x c.args.self c.args.p c.child_side-extent.result c.if-self-ge-FINEST.false c.if-not-contains.ensures c.child_side-extent.ensures
+place_toward-first-requires c =
+    let h = toward_x c.args.self c.args.p c.child_side-extent.result c.if-self-ge-FINEST.false c.if-not-contains.ensures c.child_side-extent.ensures in
+    record { some = h.0; near = h.1 }
 
 pub place_toward-second-requires : goal.place_toward-second-requires
-place_toward-second-requires c = toward_y c.args.self c.args.p c.child_side-extent.result c.if-self-ge-FINEST.false c.if-not-contains.ensures c.child_side-extent.ensures
+place_toward-second-requires c =
+    let h = toward_y c.args.self c.args.p c.child_side-extent.result c.if-self-ge-FINEST.false c.if-not-contains.ensures c.child_side-extent.ensures in
+    record { some = h.0; near = h.1 }
 
 pub place_toward-third-requires : goal.place_toward-third-requires
-place_toward-third-requires c = toward_z c.args.self c.args.p c.child_side-extent.result c.if-self-ge-FINEST.false c.if-not-contains.ensures c.child_side-extent.ensures
+place_toward-third-requires c =
+    let h = toward_z c.args.self c.args.p c.child_side-extent.result c.if-self-ge-FINEST.false c.if-not-contains.ensures c.child_side-extent.ensures in
+    record { some = h.0; near = h.1 }
 
 pub returns : goal.returns
 returns c =

@@ -1,14 +1,13 @@
 use Rattle.std.proofs.Common.{map, ◌∙◌, w32}
 use Rattle.space.specs.At.{at}
 use Rattle.std.proofs.lemmas.Int.{to_z-of_z}
-use Rattle.tree.specs.Parts.{parts}
+use Rattle.scene.specs.Meant.{placed}
 use Rattle.tree.specs.Rows.{node_symbol}
-use Rattle.gauges.proofs.Scenes.{scene_distance_law}
+use Rattle.gauges.specs.Scenes.{scene_distance_law}
 use Rattle.gauges.proofs.whole_scene.WholeSceneGauge.sure.Goals as goal
 
 pub returns : goal.returns
 returns g c =
     let s = c.args.self.now.scene.now in
-    let P = parts g.S.Solid.dist g.J.Joint.radius g.J.Joint.fillet s.solids.now s.joints.now in
     let v = c.distance.result in
-    to_z-of_z w32 v (record { sfits = c.distance.type_inv }) ∙ (scene_distance_law P (map node_symbol s.nodes.now) (at c.args.p) v s.ordered).0 c.distance.ensures
+    to_z-of_z w32 v (record { sfits = c.distance.type_inv }) ∙ (scene_distance_law (placed g.S.Solid g.J.Joint s) (map node_symbol s.nodes.now) (at c.args.p) v s.ordered).0 c.distance.ensures

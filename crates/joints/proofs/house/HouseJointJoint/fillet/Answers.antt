@@ -7,4 +7,4 @@ pub overflow_cast-result : goal.overflow_cast-result
 overflow_cast-result c =
     let r = c.in-Rounded.r in
     let half = (rounded_law r.k r.positive r.limited).half c.args.gap in
-    simp c.saturating_sub-m.ensures (omega arith)
+    simp (c.saturating_sub-m.ensures, c.from-k.ensures) (omega arith)

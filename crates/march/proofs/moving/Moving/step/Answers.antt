@@ -14,7 +14,7 @@ returns g c =
     record {
       stepped = record {
         value = v;
-        valued = subst (λ q. Valued g.G.Gauge.means g.G.Gauge.reads m.margin q before after v) c.set_point-point.ensures c.value_at-value.ensures.value;
+        valued = subst (λ q. Valued g.G.Gauge m.margin q before after v) c.set_point-point.ensures c.value_at-value.ensures.value;
         so = c.after.ensures ∙ ap (state_after (route m) c.args.self.number) (to_z-of_z w32 v fits);
       };
       kept = c.value_at-value.ensures.kept;

@@ -1,23 +1,6 @@
 use Rattle.std.proofs.Common.{◌*ℤ◌}
-use Rattle.solids.proofs.Casts.{coordinate_small, normal_small, product_read, two_fit, three_fit, sum_read, sum_small}
+use Rattle.solids.proofs.Casts.{product_read, three_fit, sum_read, sum_small}
 use Rattle.solids.proofs.catalogue.Plane.along_normal.Goals as goal
-
-pub product-requires-2 : goal.product-requires-2
-product-requires-2 c =
-    let s = c.args.self.now in
-    let p = c.args.p in
-    record { n_small = normal_small s.normal_y s.normal_y_in; a_small = coordinate_small p.y p.y_in }
-
-pub product-requires-3 : goal.product-requires-3
-product-requires-3 c =
-    let s = c.args.self.now in
-    let p = c.args.p in
-    record { n_small = normal_small s.normal_z s.normal_z_in; a_small = coordinate_small p.z p.z_in }
-
-pub overflow_add-result : goal.overflow_add-result
-overflow_add-result c =
-    let h = c.product.ensures.bound in
-    two_fit c.product.result c.product-2.result c.product.result h c.product-2.ensures.bound h
 
 pub overflow_add-result-2 : goal.overflow_add-result-2
 overflow_add-result-2 c =

@@ -14,6 +14,6 @@ returns c =
     let fits : SFits w32 m = record { sfits = c.max.type_inv } in
     to_z-of_z w32 m fits
     ∙ c.max.ensures.value
-    ∙ ap₂ int_max
+    ∙ rw (c.from.ensures, c.from-2.ensures, c.from-3.ensures) (ap₂ int_max
     (less c.root_of.result _ s.radius (c.root_of.ensures.value ∙ ap (λ n. pos (root n)) c.squared_across.ensures) c.root_of.ensures.bound (omega (arith, s.radius_in)))
-    (less_flat c.along.result s.half_height (omega (arith, c.along.type_inv)) (omega (arith, s.half_height_in)) ∙ ap (λ n. pos n -ℤ pos s.half_height) c.along.ensures)
+    (less_flat c.along.result s.half_height (omega (arith, c.along.type_inv)) (omega (arith, s.half_height_in)) ∙ ap (λ n. pos n -ℤ pos s.half_height) c.along.ensures))

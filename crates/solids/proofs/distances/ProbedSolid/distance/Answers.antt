@@ -15,20 +15,20 @@ loop-centre-preserved c =
     let s = c.args.self.now in
     let i = c.loop-centre.centre-index in
     let long : length s.centres ≡ 8 = search rules in
-    let below : i < s.count - 1 = omega (arith, c.loop-centre-test.true, length_rest (s.count - 1) s.centres (omega (arith, s.count_in))) in
+    let below : i < c.from.result - 1 = omega (arith, c.loop-centre-test.true, length_rest (c.from.result - 1) s.centres (omega (arith, s.count_in, c.from.ensures))) in
     let same : c.centre-item.result ≡ get_or s.centres (i + 1) c.centre-item.result =
-    c.centre-item.is ∙ get_or-rest (s.count - 1) s.centres i c.centre-item.result below in
+    c.centre-item.is ∙ get_or-rest (c.from.result - 1) s.centres i c.centre-item.result below in
     ap root c.min-near.ensures
     ∙ root_min c.loop-centre.near c.squared_distance.result
     ∙ ap₂ min c.loop-centre.invariant (ap root c.squared_distance.ensures ∙ ap f same)
-    ∙ sym (least_next f c.centre-item.result s.centres (i + 1) (omega arith) (omega (arith, s.count_in)))
+    ∙ sym (least_next f c.centre-item.result s.centres (i + 1) (omega arith) (omega (arith, s.count_in, c.from.ensures)))
 
 pub returns : goal.returns
 unfolding probed_distance
 returns c =
     let s = c.args.self.now in
-    let all : c.loop-centre.centre-index + 1 ≡ s.count = omega (arith, c.loop-centre-test.false, c.loop-centre.auto.centre-index-end, s.some, length_rest (s.count - 1) s.centres (omega (arith, s.count_in, s.eight))) in
-    less c.root_of.result _ s.radius
+    let all : c.loop-centre.centre-index + 1 ≡ s.count = omega (arith, c.loop-centre-test.false, c.loop-centre.auto.centre-index-end, s.some, c.from.ensures, length_rest (c.from.result - 1) s.centres (omega (arith, s.count_in, s.eight, c.from.ensures))) in
+    rw c.from-2.ensures (less c.root_of.result _ s.radius
     (c.root_of.ensures.value ∙ ap pos (c.loop-centre.invariant ∙ ap (λ n. least (roots (at c.args.p) (take n s.centres))) all))
     c.root_of.ensures.bound
-    (omega (arith, s.radius_in))
+    (omega (arith, s.radius_in)))
