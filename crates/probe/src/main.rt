@@ -6,7 +6,7 @@ use clearance::answer::{Answer, Fault};
 use clearance::script::answer;
 use joints::joint::Joint;
 use records::make::{CatalogueMake, Make, ProbedMake};
-use room::room::{Room, catalogue_room, probed_room};
+use room::room::Room;
 use scene::scene::Scene;
 use scenefile::make_number::make_number;
 use scenefile::read::read;
@@ -53,8 +53,8 @@ fn open(rt: &HostRuntime) -> anyhow::Result<()> {
     };
     let bytes = bytes.as_slice();
     match make_number(bytes) {
-        Some(ProbedMake::NUMBER) => run::<ProbedMake>(rt, bytes, &mut probed_room(rt.alloc())?),
-        _ => run::<CatalogueMake>(rt, bytes, &mut catalogue_room(rt.alloc())?),
+        Some(ProbedMake::NUMBER) => run::<ProbedMake>(rt, bytes, &mut Room::new(rt.alloc())?),
+        _ => run::<CatalogueMake>(rt, bytes, &mut Room::new(rt.alloc())?),
     }
 }
 

@@ -2,3 +2,5 @@
 #![tactic(auto)]
 
 pub mod room;
+#[cfg(test)]
+mod tests;

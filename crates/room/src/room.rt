@@ -1,16 +1,12 @@
 // Room for a scene of a make.
 ghost use Rattle.std.specs.Prelude.{◌≡◌, IfOk, vec_len};
 
-use joints::house::HouseJoint;
-use joints::radius::Radius;
-use joints::soft::SoftJoint;
 use scenefile::tables::Tables;
-use solids::catalogue::{Ball, CatalogueSolid};
-use solids::probed::Probed;
-use space::point::Point;
 use std::alloc::{AllocError, Global};
-use tree::node::{Entry, EntryKind, Node, NodeKind};
+use tree::node::{Entry, Node};
 
+// Tables of the greatest size that a file may ask for. Their lengths stand in the contract of `new`, and not in
+// ghost fields, since a struct that has some cannot lend four of its fields at once, as `tables` does.
 #[derive(Drop)]
 pub struct Room<S, J> {
     solids: Vec<S>,
@@ -19,36 +15,15 @@ pub struct Room<S, J> {
     list: Vec<Entry>,
 }
 
-// A table of n equal rows.
-fn table<T: Copy>(heap: Global, row: T, n: usize) -> Result<Vec<T>, AllocError>
-    ensures { IfOk result (λ v. vec_len v ≡ n) }
-{
-    let mut rows = Vec::with_capacity(heap, n)?;
-    for _ in 0..n {
-        rows.push(row)?;
-    }
-    Ok(rows)
-}
-
-impl<S: Copy, J: Copy> Room<S, J> {
-    // Room that begins filled with these rows.
-    pub fn new(heap: Global, solid: S, joint: J) -> Result<Self, AllocError>
+impl<S: Default + Copy, J: Default + Copy> Room<S, J> {
+    // Room that begins filled with each type's default.
+    pub fn new(heap: Global) -> Result<Self, AllocError>
         ensures { IfOk result (λ m. (vec_len m.solids ≡ 512) × (vec_len m.joints ≡ 511) × (vec_len m.nodes ≡ 1023) × (vec_len m.list ≡ 1023)) }
     {
-        let node = Node {
-            kind: NodeKind::Solid,
-            turned: false,
-            number: 0,
-        };
-        let entry = Entry {
-            kind: EntryKind::Solid,
-            turned: false,
-            number: 0,
-        };
-        let solids = table(heap, solid, 512)?;
-        let joints = table(heap, joint, 511)?;
-        let nodes = table(heap, node, 1023)?;
-        let list = table(heap, entry, 1023)?;
+        let solids = vec![in heap; S::default(); 512]?;
+        let joints = vec![in heap; J::default(); 511]?;
+        let nodes = vec![in heap; Node::default(); 1023]?;
+        let list = vec![in heap; Entry::default(); 1023]?;
         Ok(Room {
             solids,
             joints,
@@ -56,7 +31,9 @@ impl<S: Copy, J: Copy> Room<S, J> {
             list,
         })
     }
+}
 
+impl<S, J> Room<S, J> {
     // The tables, lent for one scene.
     pub fn tables(&mut self) -> Tables<'_, S, J>
         ensures solids { result.solids.now ≡ self.old.solids.items }
@@ -71,29 +48,4 @@ impl<S: Copy, J: Copy> Room<S, J> {
             list: self.list.as_mut_slice(),
         }
     }
-}
-
-const ORIGIN: Point = Point { x: 0, y: 0, z: 0 };
-
-// Room for a scene of catalogue solids and house joints.
-pub fn catalogue_room(heap: Global) -> Result<Room<CatalogueSolid, HouseJoint>, AllocError>
-    ensures { IfOk result (λ m. (vec_len m.solids ≡ 512) × (vec_len m.joints ≡ 511) × (vec_len m.nodes ≡ 1023) × (vec_len m.list ≡ 1023)) }
-{
-    let ball = Ball {
-        centre: ORIGIN,
-        radius: 0,
-    };
-    Room::new(heap, CatalogueSolid::Ball(ball), HouseJoint::Sharp)
-}
-
-// Room for a scene of probed solids and soft joints.
-pub fn probed_room(heap: Global) -> Result<Room<Probed, SoftJoint>, AllocError>
-    ensures { IfOk result (λ m. (vec_len m.solids ≡ 512) × (vec_len m.joints ≡ 511) × (vec_len m.nodes ≡ 1023) × (vec_len m.list ≡ 1023)) }
-{
-    let touched = Probed {
-        centres: [ORIGIN; 8],
-        count: 1,
-        radius: 0,
-    };
-    Room::new(heap, touched, SoftJoint(Radius { k: 1 }))
 }

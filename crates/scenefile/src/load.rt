@@ -12,7 +12,7 @@ use crate::tables::Tables;
 use crate::whole::write_whole;
 use records::make::Make;
 use space::refusal::Refusal;
-use tree::node::{Node, NodeKind};
+use tree::node::Node;
 
 // How many rows each table has.
 fn rooms<S, J>(tables: &Tables<'_, S, J>) -> Rooms
@@ -35,11 +35,7 @@ pub fn load<M: Make>(
     ensures same { SameTables tables.old tables.new }
     ensures unused { IfErr result (λ e. (n : ℕ) → e ≡ Unused n → UnusedSolid M.Solid.LENGTH bytes.now n) }
 {
-    let mut own = [Node {
-        kind: NodeKind::Solid,
-        turned: false,
-        number: 0,
-    }; 1023];
+    let mut own = [Node::default(); 1023];
     let file = check::<M>(bytes, rooms(tables), &mut own)?;
     let counts = file.counts;
     let rows = &own[..counts.nodes];

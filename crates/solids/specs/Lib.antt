@@ -14,3 +14,4 @@ pub mod Drums
 pub mod Planes
 pub mod Probes
 pub mod AxisNumber
+pub mod Defaults

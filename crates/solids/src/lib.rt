@@ -3,6 +3,7 @@
 
 pub mod axis;
 pub mod catalogue;
+mod defaults;
 mod distances;
 pub mod kinds;
 pub mod probed;

@@ -1,7 +1,8 @@
 // The rows of a node table and of a list.
 
-#[derive(Clone, Copy, PartialEq, Eq, Debug)]
+#[derive(Clone, Copy, PartialEq, Eq, Debug, Default)]
 pub enum NodeKind {
+    #[default]
     Solid,
     Union,
     Common,
@@ -9,7 +10,7 @@ pub enum NodeKind {
 }
 
 // A row of a scene's node table. Nodes stand in post-order: both operands, then the operator.
-#[derive(Clone, Copy, PartialEq, Eq, Debug)]
+#[derive(Clone, Copy, PartialEq, Eq, Debug, Default)]
 pub struct Node {
     pub kind: NodeKind,
     // whether the node hands up its raw value negated
@@ -25,14 +26,15 @@ pub enum Blend {
     Common,
 }
 
-#[derive(Clone, Copy, PartialEq, Eq, Debug)]
+#[derive(Clone, Copy, PartialEq, Eq, Debug, Default)]
 pub enum EntryKind {
+    #[default]
     Solid,
     Operator(Blend),
 }
 
 // A row of a list that is evaluated: a node, with no cut among the kinds.
-#[derive(Clone, Copy, PartialEq, Eq, Debug)]
+#[derive(Clone, Copy, PartialEq, Eq, Debug, Default)]
 pub struct Entry {
     pub kind: EntryKind,
     pub turned: bool,

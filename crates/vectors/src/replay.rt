@@ -2,7 +2,7 @@
 use crate::case::{Ask, Case};
 use clearance::answer::Fault;
 use records::make::{CatalogueMake, Make, ProbedMake};
-use room::room::{Room, catalogue_room, probed_room};
+use room::room::Room;
 use scenefile::make_number::make_number;
 use scenefile::read::read;
 
@@ -69,8 +69,8 @@ impl<'r, A: Ask> Replay<'r, A> {
     pub(crate) fn case(&mut self, case: Case<'_>) -> anyhow::Result<()> {
         let heap = self.rt.alloc();
         match make_number(case.bytes) {
-            Some(ProbedMake::NUMBER) => self.make::<ProbedMake>(case, &mut probed_room(heap)?),
-            _ => self.make::<CatalogueMake>(case, &mut catalogue_room(heap)?),
+            Some(ProbedMake::NUMBER) => self.make::<ProbedMake>(case, &mut Room::new(heap)?),
+            _ => self.make::<CatalogueMake>(case, &mut Room::new(heap)?),
         }
     }
 }
