@@ -53,8 +53,12 @@ fn open(rt: &HostRuntime) -> anyhow::Result<()> {
     };
     let bytes = bytes.as_slice();
     match make_number(bytes) {
-        Some(ProbedMake::NUMBER) => run::<ProbedMake>(rt, bytes, &mut Room::new(rt.alloc())?),
-        _ => run::<CatalogueMake>(rt, bytes, &mut Room::new(rt.alloc())?),
+        Some(ProbedMake::NUMBER) => run::<ProbedMake>(
+            rt,
+            bytes,
+            &mut Room::of_defaults(rt.alloc())?,
+        ),
+        _ => run::<CatalogueMake>(rt, bytes, &mut Room::of_defaults(rt.alloc())?),
     }
 }
 

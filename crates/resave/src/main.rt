@@ -16,9 +16,17 @@ fn resave(rt: &HostRuntime, name: &str) -> anyhow::Result<()> {
     out.fill(0);
     let done = match make_number(bytes) {
         Some(ProbedMake::NUMBER) => {
-            rewrite::<ProbedMake>(bytes, &mut Room::new(heap)?.tables(), out.as_mut_slice())
+            rewrite::<ProbedMake>(
+                bytes,
+                &mut Room::of_defaults(heap)?.tables(),
+                out.as_mut_slice(),
+            )
         }
-        _ => rewrite::<CatalogueMake>(bytes, &mut Room::new(heap)?.tables(), out.as_mut_slice()),
+        _ => rewrite::<CatalogueMake>(
+            bytes,
+            &mut Room::of_defaults(heap)?.tables(),
+            out.as_mut_slice(),
+        ),
     };
     match done {
         Ok(n) => {

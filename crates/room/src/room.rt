@@ -15,13 +15,13 @@ pub struct Room<S, J> {
     list: Vec<Entry>,
 }
 
-impl<S: Default + Copy, J: Default + Copy> Room<S, J> {
-    // Room that begins filled with each type's default.
-    pub fn new(heap: Global) -> Result<Self, AllocError>
+impl<S: Copy, J: Copy> Room<S, J> {
+    // Room that begins filled with these rows.
+    pub fn new(heap: Global, solid: S, joint: J) -> Result<Self, AllocError>
         ensures { IfOk result (λ m. (vec_len m.solids ≡ 512) × (vec_len m.joints ≡ 511) × (vec_len m.nodes ≡ 1023) × (vec_len m.list ≡ 1023)) }
     {
-        let solids = vec![in heap; S::default(); 512]?;
-        let joints = vec![in heap; J::default(); 511]?;
+        let solids = vec![in heap; solid; 512]?;
+        let joints = vec![in heap; joint; 511]?;
         let nodes = vec![in heap; Node::default(); 1023]?;
         let list = vec![in heap; Entry::default(); 1023]?;
         Ok(Room {
@@ -30,6 +30,15 @@ impl<S: Default + Copy, J: Default + Copy> Room<S, J> {
             nodes,
             list,
         })
+    }
+}
+
+impl<S: Default + Copy, J: Default + Copy> Room<S, J> {
+    // Room that begins filled with each type's default.
+    pub fn of_defaults(heap: Global) -> Result<Self, AllocError>
+        ensures { IfOk result (λ m. (vec_len m.solids ≡ 512) × (vec_len m.joints ≡ 511) × (vec_len m.nodes ≡ 1023) × (vec_len m.list ≡ 1023)) }
+    {
+        Room::new(heap, S::default(), J::default())
     }
 }
 

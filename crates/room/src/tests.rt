@@ -7,7 +7,7 @@ use solids::probed::Probed;
 
 #[test]
 fn catalogue(rt: HostRuntime) {
-    let mut room = Room::<CatalogueSolid, HouseJoint>::new(rt.alloc()).expect(&rt, "memory");
+    let mut room = Room::<CatalogueSolid, HouseJoint>::of_defaults(rt.alloc()).expect(&rt, "memory");
     let tables = room.tables();
     assert!(rt; tables.solids.len() == 512);
     assert!(rt; tables.joints.len() == 511);
@@ -15,7 +15,7 @@ fn catalogue(rt: HostRuntime) {
 
 #[test]
 fn probed(rt: HostRuntime) {
-    let mut room = Room::<Probed, SoftJoint>::new(rt.alloc()).expect(&rt, "memory");
+    let mut room = Room::<Probed, SoftJoint>::of_defaults(rt.alloc()).expect(&rt, "memory");
     let tables = room.tables();
     assert!(rt; tables.nodes.len() == 1023);
     assert!(rt; tables.list.len() == 1023);

@@ -69,8 +69,11 @@ impl<'r, A: Ask> Replay<'r, A> {
     pub(crate) fn case(&mut self, case: Case<'_>) -> anyhow::Result<()> {
         let heap = self.rt.alloc();
         match make_number(case.bytes) {
-            Some(ProbedMake::NUMBER) => self.make::<ProbedMake>(case, &mut Room::new(heap)?),
-            _ => self.make::<CatalogueMake>(case, &mut Room::new(heap)?),
+            Some(ProbedMake::NUMBER) => self.make::<ProbedMake>(
+                case,
+                &mut Room::of_defaults(heap)?,
+            ),
+            _ => self.make::<CatalogueMake>(case, &mut Room::of_defaults(heap)?),
         }
     }
 }
