@@ -36,7 +36,8 @@ impl Record for CatalogueSolid {
     }
 }
 
-// The solid with these fields, if they keep the rule of its kind.
+// The solid with these fields, if they keep the rule of its kind. A kind's number stands here and in `raw_of`
+// alone: an enum between the number and the solid would name each kind once more.
 fn read_fields(raw: RawSolid) -> Option<CatalogueSolid>
     ensures { Reads raw_of raw result }
 {

@@ -42,10 +42,6 @@ returns-then-not-all_origin c s e =
     both_ways _ (sym c.if-not-all_origin.ensures)
     (ap all_origin (unused_is _ _ c.loop-i.centres inv.filled.eight c.from.ensures) ∙ unused_are c.args.bytes.now s e c.from_le_bytes-count.result _ c.loop-i.centres eight inv.filled counted)
 
-pub invariant_of-result-clause-unused : goal.invariant_of-result-clause-unused
-invariant_of-result-clause-unused c =
-    sym (ap all_origin (unused_is _ _ c.loop-i.centres c.loop-i.invariant.filled.eight c.from.ensures)) ∙ sym c.if-not-all_origin.ensures
-
 pub returns : goal.returns
 returns c =
     let inv = c.loop-i.invariant in
