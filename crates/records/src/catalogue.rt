@@ -36,8 +36,8 @@ impl Record for CatalogueSolid {
     }
 }
 
-// The solid with these fields, if they keep the rule of its kind. A kind's number stands here and in `raw_of`
-// alone: an enum between the number and the solid would name each kind once more.
+// The solid with these fields, if they keep the rule of its kind. A kind's number stands here and where a
+// solid's fields are made alone: an enum between the number and the solid would name each kind once more.
 fn read_fields(raw: RawSolid) -> Option<CatalogueSolid>
     ensures { Reads raw_of raw result }
 {
@@ -138,56 +138,59 @@ fn read_drum(raw: RawSolid) -> Option<Drum>
 fn catalogue_bytes(solid: CatalogueSolid) -> [u8; 20]
     ensures { result ≡ catalogue_record solid }
 {
-    raw_bytes(raw_of(solid))
+    raw_bytes(RawSolid::from(solid))
 }
 
-fn raw_of(solid: CatalogueSolid) -> RawSolid
-    ensures { result ≡ raw_of solid }
-{
-    match solid {
-        CatalogueSolid::Ball(s) => RawSolid {
-            kind: 1,
-            r: s.radius,
-            x: s.centre.x,
-            y: s.centre.y,
-            z: s.centre.z,
-            h0: 0,
-            h1: 0,
-            h2: 0,
-            d: 0,
-        },
-        CatalogueSolid::Block(s) => RawSolid {
-            kind: 2,
-            r: s.radius,
-            x: s.centre.x,
-            y: s.centre.y,
-            z: s.centre.z,
-            h0: s.half_x,
-            h1: s.half_y,
-            h2: s.half_z,
-            d: 0,
-        },
-        CatalogueSolid::Plane(s) => RawSolid {
-            kind: 3,
-            r: s.length,
-            x: s.normal_x,
-            y: s.normal_y,
-            z: s.normal_z,
-            h0: 0,
-            h1: 0,
-            h2: 0,
-            d: s.offset,
-        },
-        CatalogueSolid::Drum(s) => RawSolid {
-            kind: 4,
-            r: s.radius,
-            x: s.centre.x,
-            y: s.centre.y,
-            z: s.centre.z,
-            h0: s.half_height,
-            h1: u16::from(s.axis),
-            h2: 0,
-            d: 0,
-        },
+// The fields that a solid stands as.
+impl From<CatalogueSolid> for RawSolid {
+    ghost from_gives = { λ solid raw. raw ≡ raw_of solid };
+
+    fn from(solid: CatalogueSolid) -> Self {
+        match solid {
+            CatalogueSolid::Ball(s) => RawSolid {
+                kind: 1,
+                r: s.radius,
+                x: s.centre.x,
+                y: s.centre.y,
+                z: s.centre.z,
+                h0: 0,
+                h1: 0,
+                h2: 0,
+                d: 0,
+            },
+            CatalogueSolid::Block(s) => RawSolid {
+                kind: 2,
+                r: s.radius,
+                x: s.centre.x,
+                y: s.centre.y,
+                z: s.centre.z,
+                h0: s.half_x,
+                h1: s.half_y,
+                h2: s.half_z,
+                d: 0,
+            },
+            CatalogueSolid::Plane(s) => RawSolid {
+                kind: 3,
+                r: s.length,
+                x: s.normal_x,
+                y: s.normal_y,
+                z: s.normal_z,
+                h0: 0,
+                h1: 0,
+                h2: 0,
+                d: s.offset,
+            },
+            CatalogueSolid::Drum(s) => RawSolid {
+                kind: 4,
+                r: s.radius,
+                x: s.centre.x,
+                y: s.centre.y,
+                z: s.centre.z,
+                h0: s.half_height,
+                h1: u16::from(s.axis),
+                h2: 0,
+                d: 0,
+            },
+        }
     }
 }

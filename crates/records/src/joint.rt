@@ -48,6 +48,7 @@ impl Record for HouseJoint {
 
     fn read(bytes: &[u8]) -> Option<HouseJoint> {
         let RawJoint { form, k } = read_raw_joint(bytes)?;
+        // a form's number is read here alone: an enum of forms would name each once more
         match form {
             0 if k == 0 => Some(HouseJoint::Sharp),
             1 if 1 <= k && k <= 2048 => Some(HouseJoint::Rounded(Radius { k })),

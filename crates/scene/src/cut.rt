@@ -7,7 +7,8 @@ use crate::block::Block;
 use crate::waiting::Waiting;
 use tree::node::Entry;
 
-// The lists of the trees that wait lie one after another in the front of a free part.
+// The lists of the trees that wait lie one after another in the front of a free part. Each method promises by itself
+// that the part is still the one that was lent: a struct cannot say of itself what it held before a call.
 #[derive(Drop)]
 pub(crate) struct Cut<'f> {
     pub(crate) free: &'f mut [Entry],

@@ -35,6 +35,7 @@ pub fn load<M: Make>(
     ensures same { SameTables tables.old tables.new }
     ensures unused { IfErr result (λ e. (n : ℕ) → e ≡ Unused n → UnusedSolid M.Solid.LENGTH bytes.now n) }
 {
+    // an array of the greatest size: the library has no heap
     let mut own = [Node::default(); 1023];
     let file = check::<M>(bytes, rooms(tables), &mut own)?;
     let counts = file.counts;

@@ -20,10 +20,10 @@ fn is_within(node: Node, solids: usize, joints: usize) -> bool
 }
 
 // The node that a record is of, where it names a solid or a joint of the tables.
-fn read_within(record: &[u8], solids: usize, joints: usize) -> Option<Node>
-    ensures { MatchOption result (NoNode solids joints record.now) (λ x. (node_record x ≡ record.now) × (named solids joints (node_symbol x) ≡ true)) }
+fn read_within(bytes: &[u8], solids: usize, joints: usize) -> Option<Node>
+    ensures { MatchOption result (NoNode solids joints bytes.now) (λ x. (node_record x ≡ bytes.now) × (named solids joints (node_symbol x) ≡ true)) }
 {
-    let node = Node::read(record)?;
+    let node = Node::read(bytes)?;
     if is_within(node, solids, joints) {
         Some(node)
     } else {

@@ -26,6 +26,7 @@ pub enum Blend {
     Common,
 }
 
+// Not an Option<Blend>: a solid is no operator that is missing.
 #[derive(Clone, Copy, PartialEq, Eq, Debug, Default)]
 pub enum EntryKind {
     #[default]
