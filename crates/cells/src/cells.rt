@@ -140,6 +140,8 @@ impl Cell {
     }
 }
 
+// The three functions on one axis take numbers: a struct of extent and low end would be made anew for each axis.
+
 // On one axis: the low end of the part with this place among four parts of this extent.
 fn part(extent: u16, place: u8, low: i16) -> i16
     requires few { place < 4 }

@@ -1,4 +1,4 @@
-// How an answer is printed.
+// How an answer and a fault are printed.
 ghost use Rattle.clearance.specs.Answers.{answer_text, fault_text};
 ghost use Rattle.std.specs.Prelude.{Some};
 

@@ -1,4 +1,4 @@
-// A fault as an error.
+// A fault as an error, and a refusal as a fault.
 ghost use Rattle.std.specs.Prelude.{◌≡◌};
 ghost use Rattle.clearance.specs.declared.answer.Fault.TheVariants.{No};
 

@@ -45,6 +45,7 @@ fn read_point(text: &str) -> Option<Call>
 pub fn read_call(line: &str) -> Option<Call>
     ensures { result ≡ call_of line.now }
 {
+    // each call's name is one letter
     let (name, rest) = line.split_once(' ')?;
     match name.chars().next() {
         Some('s') if name.len() == 1 => read_point(rest),

@@ -10,8 +10,8 @@ use crate::reading::Reading;
 use space::point::Point;
 
 pub trait Gauge {
-    // what the gauge must hold for its readings, from its making on; every call that reads through a gauge asks it, as
-    // no type can: which gauges hold it is the kind's own affair
+    // what the gauge must hold for its readings, from its making on. Every call that reads through a gauge asks it: a kind
+    // whose type says less than it must hold is a kind of gauge too
     ghost holds: { Self → Type 0 };
 
     // the distance that it means at a point

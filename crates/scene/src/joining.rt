@@ -1,4 +1,6 @@
-// The value of one entry: a solid's distance, or what an operator makes of its operands' values.
+// What one entry comes to: a solid's distance, what an operator makes of its operands' values, and whether it drops out.
+// That a value is at most 2^30 is a condition and no type: an operator moves it by up to 1,024, so no type of values
+// would be kept by it.
 ghost use Rattle.std.specs.Prelude.{◌≡◌, ◌+◌, ◌*◌, ◌^◌, ◌<◌, ◌≤◌, length, nat_lt, unsigned_abs};
 ghost use Rattle.space.specs.At.{at};
 ghost use Rattle.tree.specs.Parts.{solid_distance, joint_fillet, joint_radius};

@@ -1,4 +1,4 @@
-// What waits while a list is worked out or cut down: at most 64 of a kind, in fixed memory.
+// What waits while a list is worked out or cut down: at most 64 of a kind, in an array, since the library has no heap.
 ghost use Rattle.std.specs.Prelude.{◌≡◌, ◌+◌, ◌<◌, [], ◌∷◌, length};
 
 use std::marker::Model;
@@ -20,6 +20,7 @@ impl<T> Model for Waiting<T> {
     ghost invariant = { λ w. w.count ≤ 64 };
 }
 
+// How many wait follows from what waits; it is said besides for callers, whose calls would not be proved without.
 impl<T: Copy> Waiting<T> {
     // None waits; the rows of the table begin as `first`.
     pub(crate) fn new(first: T) -> Waiting<T>

@@ -1,5 +1,5 @@
 -- The solids that tables begin filled with. Assumes nothing.
-use Rattle.std.specs.Prelude.{◌≡◌, ℕ, true}
+use Rattle.std.specs.Prelude.{◌≡◌, true}
 use Rattle.solids.specs.Unused.{is_origin, all_origin}
 use Rattle.solids.specs.declared.catalogue.CatalogueSolid.{CatalogueSolid}
 use Rattle.solids.specs.declared.catalogue.CatalogueSolid.TheVariants.{Ball, Block, Plane, Drum}

@@ -12,14 +12,12 @@ use Rattle.solids.specs.Catalogue.{catalogue_distance}
 use Rattle.solids.specs.Drum.{along, across², drum_distance}
 use Rattle.solids.specs.Drums.{near_across, near_along, roomy_across, roomy_along}
 use Rattle.solids.specs.Keeping.{near_less, near_max, near_root, ranged_less, ranged_max, roomy_apart, stands}
-use Rattle.solids.specs.Plane.{plane_distance}
 use Rattle.solids.specs.Planes.{near_plane, ranged_plane}
 use Rattle.solids.specs.Probed.{probed_distance, least, roots}
 use Rattle.solids.specs.Probes.{near_least, roomy_least}
 use Rattle.solids.specs.declared.catalogue.Ball as ball
 use Rattle.solids.specs.declared.catalogue.Block as block
 use Rattle.solids.specs.declared.catalogue.Drum as drum
-use Rattle.solids.specs.declared.catalogue.Plane as plane
 use Rattle.solids.specs.declared.catalogue.CatalogueSolid.{CatalogueSolid}
 use Rattle.solids.specs.declared.catalogue.CatalogueSolid.TheVariants.{Ball, Block, Plane, Drum}
 use Rattle.solids.specs.declared.probed.Probed.{Probed}
@@ -37,12 +35,6 @@ block_near s = near_less (sharp s) s.radius (near_sharp s)
 
 pub block_ranged : (s : block.Block) → DistanceRange (block_distance s)
 block_ranged s = ranged_less (sharp s) s.radius (roomy_sharp s) s.radius_in
-
-pub plane_near : (s : plane.Plane) → DistanceLaw (plane_distance s)
-plane_near s = near_plane s
-
-pub plane_ranged : (s : plane.Plane) → DistanceRange (plane_distance s)
-plane_ranged s = ranged_plane s
 
 pub drum_near : (s : drum.Drum) → DistanceLaw (drum_distance s)
 unfolding drum_distance
@@ -67,13 +59,13 @@ drum_ranged s =
 pub catalogue_near : (s : CatalogueSolid) → DistanceLaw (catalogue_distance s)
 catalogue_near (Ball s) = ball_near s
 catalogue_near (Block s) = block_near s
-catalogue_near (Plane s) = plane_near s
+catalogue_near (Plane s) = near_plane s
 catalogue_near (Drum s) = drum_near s
 
 pub catalogue_ranged : (s : CatalogueSolid) → DistanceRange (catalogue_distance s)
 catalogue_ranged (Ball s) = ball_ranged s
 catalogue_ranged (Block s) = block_ranged s
-catalogue_ranged (Plane s) = plane_ranged s
+catalogue_ranged (Plane s) = ranged_plane s
 catalogue_ranged (Drum s) = drum_ranged s
 
 pub probed_near : (s : Probed) → DistanceLaw (probed_distance s)

@@ -5,8 +5,9 @@ ghost use Rattle.space.specs.Pt.{apart²};
 ghost use Rattle.space.specs.Root.{root};
 ghost use Rattle.solids.specs.Ball.{ball_distance};
 ghost use Rattle.solids.specs.Block.{block_distance, box_distance, excess, positive_square};
-ghost use Rattle.solids.specs.KindLaws.{ball_near, ball_ranged, block_near, block_ranged, plane_near, plane_ranged, drum_near, drum_ranged, probed_near, probed_ranged};
+ghost use Rattle.solids.specs.KindLaws.{ball_near, ball_ranged, block_near, block_ranged, drum_near, drum_ranged, probed_near, probed_ranged};
 ghost use Rattle.solids.specs.Drum.{drum_distance, along, across²};
+ghost use Rattle.solids.specs.Planes.{near_plane, ranged_plane};
 ghost use Rattle.solids.specs.Plane.{plane_distance, along_normal};
 ghost use Rattle.solids.specs.Probed.{probed_distance};
 
@@ -46,9 +47,9 @@ impl Solid for Block {
 impl Solid for Plane {
     ghost dist = { plane_distance };
 
-    ghost near = { plane_near };
+    ghost near = { near_plane };
 
-    ghost ranged = { plane_ranged };
+    ghost ranged = { ranged_plane };
 
     fn distance(&self, p: Point) -> i32 {
         (self.along_normal(p) - self.offset).div_euclid(i32::from(self.length))
@@ -109,7 +110,8 @@ fn squared_distance(p: Point, q: Point) -> u32
     square(p.x.abs_diff(q.x)) + square(p.y.abs_diff(q.y)) + square(p.z.abs_diff(q.z))
 }
 
-// Of a difference of two coordinates.
+// Of a difference of two coordinates. Its bound is a condition here and in the two functions that lead here: a type for
+// it would wrap a number that is squared at once.
 fn square(a: u16) -> u32
     requires { a ≤ 16383 }
     ensures value { result ≡ a * a }

@@ -1,6 +1,5 @@
 pub mod FloorDivs
 pub mod Products
-pub mod Ranges
 pub mod RootOrder
 pub mod Roots
 pub mod Triangles

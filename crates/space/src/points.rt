@@ -1,6 +1,8 @@
 // How a point is made from wider numbers.
-ghost use Rattle.std.specs.Prelude.{◌≡◌};
+ghost use Rattle.std.specs.Prelude.{◌≡◌, MatchResult, false, true};
 ghost use Rattle.space.specs.At.{in_range, pt_outcome, seen};
+ghost use Rattle.space.specs.Pt.{InRange};
+ghost use Rattle.space.specs.declared.refusal.Refusal.TheVariants.{Outside};
 
 use crate::point::Point;
 use crate::refusal::Refusal;
@@ -12,26 +14,20 @@ impl Point {
     pub fn new(x: i32, y: i32, z: i32) -> Result<Point, Refusal>
         ensures { seen result ≡ pt_outcome x y z }
     {
-        if !in_range(x) {
-            return Err(Refusal::Outside(1));
-        }
-        if !in_range(y) {
-            return Err(Refusal::Outside(2));
-        }
-        if !in_range(z) {
-            return Err(Refusal::Outside(3));
-        }
         Ok(Point {
-            x: x as i16,
-            y: y as i16,
-            z: z as i16,
+            x: coordinate(x, 1)?,
+            y: coordinate(y, 2)?,
+            z: coordinate(z, 3)?,
         })
     }
 }
 
-// Whether a number can be a coordinate.
-fn in_range(a: i32) -> bool
-    ensures { result ≡ in_range a }
+// A number as a coordinate, or refusal 12 with its place.
+fn coordinate(a: i32, place: u16) -> Result<i16, Refusal>
+    ensures { MatchResult result (λ r. (r ≡ a) × InRange r × (in_range a ≡ true)) (λ e. (e ≡ Outside place) × (in_range a ≡ false)) }
 {
-    -8192 <= a && a <= 8191
+    match i16::try_from(a) {
+        Ok(a) if -8192 <= a && a <= 8191 => Ok(a),
+        _ => Err(Refusal::Outside(place)),
+    }
 }

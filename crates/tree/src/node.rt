@@ -9,7 +9,8 @@ pub enum NodeKind {
     Cut,
 }
 
-// A row of a scene's node table. Nodes stand in post-order: both operands, then the operator.
+// A row of a scene's node table. Nodes stand in post-order: both operands, then the operator. The number is a field, and
+// not one of each kind's own: every kind has one, as every record does.
 #[derive(Clone, Copy, PartialEq, Eq, Debug, Default)]
 pub struct Node {
     pub kind: NodeKind,
@@ -34,7 +35,8 @@ pub enum EntryKind {
     Operator(Blend),
 }
 
-// A row of a list that is evaluated: a node, with no cut among the kinds.
+// A row of a list that is evaluated: a node, with no cut among the kinds. A type of its own, and not Node over another
+// kind: no code serves both.
 #[derive(Clone, Copy, PartialEq, Eq, Debug, Default)]
 pub struct Entry {
     pub kind: EntryKind,
