@@ -15,6 +15,7 @@ pub(crate) struct Cut<'f> {
     // how much of the free part they take
     pub(crate) written: usize,
     pub(crate) waiting: Waiting<Block>,
+    ghost within: { written ≤ length free.now },
 }
 
 impl<'f> Cut<'f> {
@@ -51,7 +52,6 @@ impl<'f> Cut<'f> {
     pub(crate) fn keep(&mut self, first: usize, second: usize, keep_first: bool)
         requires rising { first ≤ second }
         requires ends { second ≤ self.old.written }
-        requires within { self.old.written ≤ length self.old.free.now }
         ensures written { self.new.written ≡ first + cond keep_first (second - first) (self.old.written - second) }
         ensures front { take self.new.written self.new.free.now ≡ take first self.old.free.now ++ cond keep_first (slice_range self.old.free.now first second) (slice_range self.old.free.now second self.old.written) }
         ensures len { length self.new.free.now ≡ length self.old.free.now }
@@ -69,8 +69,7 @@ impl<'f> Cut<'f> {
 
     // The turn of the entry that ends what is written is combined with the turn of the operator that drops out.
     pub(crate) fn combine(&mut self, turned: bool)
-        requires some { 0 < self.old.written }
-        requires within { self.old.written ≤ length self.old.free.now }
+        requires { 0 < self.old.written }
         ensures front { (e : Entry) → take self.old.written self.new.free.now ≡ take (self.old.written - 1) self.old.free.now ++ entry_turned_by turned (slice_index_or self.old.free.now (self.old.written - 1) e) ∷ [] }
         ensures len { length self.new.free.now ≡ length self.old.free.now }
         ensures beyond { drop self.old.written self.new.free.now ≡ drop self.old.written self.old.free.now }
@@ -78,7 +77,9 @@ impl<'f> Cut<'f> {
         ensures same_part { self.new.free.ghost_name ≡ self.old.free.ghost_name }
         ensures waiting { self.new.waiting ≡ self.old.waiting }
     {
-        let last = &mut self.free[self.written - 1];
+        let end = self.written - 1;
+        let free = &mut *self.free;
+        let last = &mut free[end];
         last.turned = last.turned != turned;
     }
 }

@@ -12,7 +12,7 @@ returns-then-keep_first c =
     record {
       written = up ∙ ap (λ k. a.first + cond k (a.second - a.first) (end - a.second)) (sym c.if-keep_first.true);
       front =
-          first_stays xs a.first a.second end p.rising p.ends p.within
+          first_stays xs a.first a.second end p.rising p.ends a.self.now.within
           ∙ ap (λ k. take a.first xs ++ cond k (take (a.second - a.first) (drop a.first xs)) (take (end - a.second) (drop a.second xs))) (sym c.if-keep_first.true);
       len = refl;
       beyond = refl;
@@ -31,10 +31,10 @@ returns-else-keep_first c =
       written = ap (λ k. a.first + cond k (a.second - a.first) (end - a.second)) (sym c.if-keep_first.false);
       front =
           ap (take (a.first + (end - a.second))) after
-          ∙ second_moved xs a.first a.second end p.rising p.ends p.within
+          ∙ second_moved xs a.first a.second end p.rising p.ends a.self.now.within
           ∙ ap (λ k. take a.first xs ++ cond k (take (a.second - a.first) (drop a.first xs)) (take (end - a.second) (drop a.second xs))) (sym c.if-keep_first.false);
       len = c.copy_within.ensures.len;
-      beyond = ap (drop end) after ∙ moved_beyond xs a.first a.second end p.rising p.ends p.within;
+      beyond = ap (drop end) after ∙ moved_beyond xs a.first a.second end p.rising p.ends a.self.now.within;
       same_part = refl;
       waiting = refl;
     }
