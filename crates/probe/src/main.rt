@@ -52,6 +52,7 @@ fn open(rt: &HostRuntime) -> anyhow::Result<()> {
         return Err(anyhow!("scene.bin cannot be read"));
     };
     let bytes = bytes.as_slice();
+    // two arms, here and in the other programs: a trait with a generic method would take more lines than it saves
     match make_number(bytes) {
         Some(ProbedMake::NUMBER) => run::<ProbedMake>(
             rt,

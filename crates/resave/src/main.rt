@@ -14,6 +14,7 @@ fn resave(rt: &HostRuntime, name: &str) -> anyhow::Result<()> {
     let bytes = bytes.as_slice();
     let mut out = bytes.to_vec(heap)?;
     out.fill(0);
+    // two arms, here and in the other programs: a trait with a generic method would take more lines than it saves
     let done = match make_number(bytes) {
         Some(ProbedMake::NUMBER) => {
             rewrite::<ProbedMake>(

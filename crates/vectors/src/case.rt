@@ -4,6 +4,8 @@ use records::make::Make;
 use scene::scene::Scene;
 use solids::solid::Solid;
 use std::alloc::Global;
+use std::error::Error;
+use std::str::FromStr;
 
 // A file, and a script for it: a line each, each with a line feed, with what each comes to. A refused file has
 // its refusal as the only answer.
@@ -13,6 +15,16 @@ pub(crate) struct Case<'a> {
     pub(crate) bytes: &'a [u8],
     pub(crate) script: &'a str,
     pub(crate) wanted: &'a str,
+}
+
+// The numbers of a line, which stand with a space between them.
+pub(crate) fn numbers<T: FromStr + Drop>(heap: Global, line: &str) -> anyhow::Result<Vec<T>>
+where
+    T::Err: Error,
+{
+    line.split(' ')
+        .map(|word| -> anyhow::Result<T> { Ok(word.parse::<T>()?) })
+        .try_collect(heap)
 }
 
 // What is asked of scenes. Each kind counts for how many answers some further thing holds.

@@ -1,5 +1,5 @@
 // Motions through whole scenes, and how an independent model's marches end.
-use crate::case::Ask;
+use crate::case::{Ask, numbers};
 use anyhow::anyhow;
 use gauges::scene_march::march_through;
 use joints::joint::Joint;
@@ -16,10 +16,7 @@ pub(crate) struct Marches {
 
 // A motion's line: the coordinates of both points, then the margin.
 fn read_motion(heap: Global, line: &str) -> anyhow::Result<Motion> {
-    let numbers: Vec<i32> = line
-        .split(' ')
-        .map(|word| -> anyhow::Result<i32> { Ok(word.parse::<i32>()?) })
-        .try_collect(heap)?;
+    let numbers = numbers::<i32>(heap, line)?;
     let [ax, ay, az, bx, by, bz, margin] = numbers.as_slice() else {
         return Err(anyhow!("a motion has seven numbers"));
     };

@@ -1,6 +1,6 @@
 // Paths through scenes, and what an independent model finds at their ends: a near cell's list, entry by entry, or
 // a far cell's constant.
-use crate::case::Ask;
+use crate::case::{Ask, numbers};
 use anyhow::anyhow;
 use cells::cell::Cell;
 use descent::child::Child;
@@ -86,10 +86,7 @@ impl Ask for Paths {
         scene: &Scene<'_, S, J>,
         line: &str,
     ) -> anyhow::Result<String> {
-        let numbers: Vec<u8> = line
-            .split(' ')
-            .map(|word| -> anyhow::Result<u8> { Ok(word.parse::<u8>()?) })
-            .try_collect(heap)?;
+        let numbers = numbers::<u8>(heap, line)?;
         let [factor, path @ ..] = numbers.as_slice() else {
             return Err(anyhow!("a path has no far factor"));
         };

@@ -68,6 +68,7 @@ impl<'r, A: Ask> Replay<'r, A> {
 
     pub(crate) fn case(&mut self, case: Case<'_>) -> anyhow::Result<()> {
         let heap = self.rt.alloc();
+        // two arms, here and in the other programs: a trait with a generic method would take more lines than it saves
         match make_number(case.bytes) {
             Some(ProbedMake::NUMBER) => self.make::<ProbedMake>(
                 case,
