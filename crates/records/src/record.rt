@@ -16,7 +16,8 @@ pub trait Record: Sized {
     fn read(bytes: &[u8]) -> Option<Self>
         ensures { Reads written bytes.now result };
 
-    // puts the record over the front of an output that has room for it, and leaves another alone
+    // Puts the record over the front of an output that has room for it, and leaves another alone. Each kind does it by an
+    // array of its own length: one body for all would need an array of `Self::LENGTH` bytes, a computed const argument.
     fn write(&self, out: &mut [u8])
         ensures { out.new ≡ put (written self.now) out.old };
 

@@ -1,24 +1,22 @@
 // The number that stands for an axis in a record.
 ghost use Rattle.std.specs.Prelude.{◌≡◌};
-ghost use Rattle.solids.specs.AxisNumber.{axis_number, AxisOf};
+ghost use Rattle.solids.specs.AxisNumber.{axis_number};
+ghost use Rattle.space.specs.Numbered.{KindOf};
 
 use crate::catalogue::Axis;
-
-// A number that stands for no axis.
-#[derive(Clone, Copy, PartialEq, Eq, Debug)]
-pub struct UnknownAxis(pub u16);
+use space::unknown::Unknown;
 
 impl TryFrom<u16> for Axis {
-    type Error = UnknownAxis;
+    type Error = Unknown<u16>;
 
-    ghost try_from_gives = { AxisOf };
+    ghost try_from_gives = { KindOf axis_number };
 
-    fn try_from(number: u16) -> Result<Self, UnknownAxis> {
+    fn try_from(number: u16) -> Result<Self, Unknown<u16>> {
         match number {
             0 => Ok(Axis::X),
             1 => Ok(Axis::Y),
             2 => Ok(Axis::Z),
-            _ => Err(UnknownAxis(number)),
+            _ => Err(Unknown(number)),
         }
     }
 }

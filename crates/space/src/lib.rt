@@ -1,4 +1,4 @@
-// What every other crate speaks of: points of space, roots and refusals.
+// What every other crate speaks of: points of space, roots, refusals, and numbers that stand for kinds.
 #![tactic(auto)]
 
 pub mod point;
@@ -6,3 +6,4 @@ pub mod points;
 pub mod refusal;
 pub mod refusals;
 pub mod root;
+pub mod unknown;

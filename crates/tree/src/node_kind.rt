@@ -1,25 +1,23 @@
 // The number that stands for a kind of node in a record.
 ghost use Rattle.std.specs.Prelude.{◌≡◌};
-ghost use Rattle.tree.specs.KindNumber.{kind_number, KindOf};
+ghost use Rattle.space.specs.Numbered.{KindOf};
+ghost use Rattle.tree.specs.KindNumber.{kind_number};
 
 use crate::node::NodeKind;
-
-// A number that stands for no kind of node.
-#[derive(Clone, Copy, PartialEq, Eq, Debug)]
-pub struct UnknownKind(pub u8);
+use space::unknown::Unknown;
 
 impl TryFrom<u8> for NodeKind {
-    type Error = UnknownKind;
+    type Error = Unknown<u8>;
 
-    ghost try_from_gives = { KindOf };
+    ghost try_from_gives = { KindOf kind_number };
 
-    fn try_from(number: u8) -> Result<Self, UnknownKind> {
+    fn try_from(number: u8) -> Result<Self, Unknown<u8>> {
         match number {
             1 => Ok(NodeKind::Solid),
             2 => Ok(NodeKind::Union),
             3 => Ok(NodeKind::Common),
             4 => Ok(NodeKind::Cut),
-            _ => Err(UnknownKind(number)),
+            _ => Err(Unknown(number)),
         }
     }
 }
