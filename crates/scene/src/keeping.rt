@@ -15,7 +15,7 @@ pub(crate) fn keeps_first(blend: Blend, a: i32, b: i32) -> bool
     }
 }
 
-// One of two values.
+// One of two values. A function of its own, so that what it answers is one fact where an operator drops out.
 pub(crate) fn pick(first: bool, a: i32, b: i32) -> i32
     ensures { result ≡ (if first then a else b) }
 {

@@ -88,6 +88,7 @@ impl Solid for Probed {
     ghost ranged = { probed_ranged };
 
     fn distance(&self, p: Point) -> i32 {
+        // a loop, and no `fold`: with one the goal `returns` stayed open
         let mut near = squared_distance(p, self.centres[0]);
         for centre in &self.centres[1..usize::from(self.count)] {
             near = near.min(squared_distance(p, *centre));

@@ -43,7 +43,8 @@ pub enum Refusal {
     Order(u16),
     // no node names this solid
     Unused(u16),
-    // a coordinate or a margin is outside its range; the coordinate's place, 1 to 6, or 7 for the margin
+    // a coordinate or a margin is outside its range; the coordinate's place, 1 to 6, or 7 for the margin. A number, and no
+    // enum: it is told as it is, and the places of a motion's second point are counted on from the first's
     Outside(u16),
     // the free part of a store is shorter than the list that is cut down into it
     Full,

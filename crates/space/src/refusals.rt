@@ -1,4 +1,4 @@
-// What a refusal tells: its number, its layer and its place.
+// What a refusal tells: its number, its layer and its place. They are methods, and no From: there are three of them.
 ghost use Rattle.std.specs.Prelude.{◌≡◌};
 ghost use Rattle.space.specs.Refusals.{number, layer, place, table_place};
 
