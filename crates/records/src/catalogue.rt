@@ -38,6 +38,7 @@ impl Record for CatalogueSolid {
 
 // The solid with these fields, if they keep the rule of its kind. A kind's number stands here and where a
 // solid's fields are made alone: an enum between the number and the solid would name each kind once more.
+// An Option, and no TryFrom: fields that are nobody's have no error to tell.
 fn read_fields(raw: RawSolid) -> Option<CatalogueSolid>
     ensures { Reads raw_of raw result }
 {

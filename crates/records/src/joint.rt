@@ -2,7 +2,7 @@
 ghost use Rattle.std.specs.Prelude.{◌≡◌, refl};
 ghost use Rattle.std.proofs.Math.Dec.{lit≤};
 ghost use Rattle.records.specs.Apart.{house_apart, soft_apart};
-ghost use Rattle.records.specs.Joint.{raw_joint_record, house_record, soft_record};
+ghost use Rattle.records.specs.Joint.{raw_joint_record, house_fields, soft_fields, house_record, soft_record};
 ghost use Rattle.records.specs.Reads.{Reads};
 
 use crate::bytes::put_bytes;
@@ -11,7 +11,8 @@ use joints::house::HouseJoint;
 use joints::radius::Radius;
 use joints::soft::SoftJoint;
 
-// The fields of a joint's record, before any rule is tested.
+// The fields of a joint's record, before any rule is tested. A form's number stands where it is read and where a joint's
+// fields are made: an enum of forms would name each form once more.
 #[derive(Clone, Copy)]
 struct RawJoint {
     form: u16,
@@ -48,7 +49,6 @@ impl Record for HouseJoint {
 
     fn read(bytes: &[u8]) -> Option<HouseJoint> {
         let RawJoint { form, k } = read_raw_joint(bytes)?;
-        // a form's number is read here alone: an enum of forms would name each once more
         match form {
             0 if k == 0 => Some(HouseJoint::Sharp),
             1 if 1 <= k && k <= 2048 => Some(HouseJoint::Rounded(Radius { k })),
@@ -98,18 +98,33 @@ fn raw_joint_bytes(joint: RawJoint) -> [u8; 4]
 fn house_bytes(joint: HouseJoint) -> [u8; 4]
     ensures { result ≡ house_record joint }
 {
-    let fields = match joint {
-        HouseJoint::Sharp => RawJoint { form: 0, k: 0 },
-        HouseJoint::Rounded(r) => RawJoint { form: 1, k: r.k },
-    };
-    raw_joint_bytes(fields)
+    raw_joint_bytes(RawJoint::from(joint))
 }
 
 fn soft_bytes(joint: SoftJoint) -> [u8; 4]
     ensures { result ≡ soft_record joint }
 {
-    raw_joint_bytes(RawJoint {
-        form: 2,
-        k: joint.0.k,
-    })
+    raw_joint_bytes(RawJoint::from(joint))
+}
+
+impl From<HouseJoint> for RawJoint {
+    ghost from_gives = { λ joint raw. raw ≡ house_fields joint };
+
+    fn from(joint: HouseJoint) -> Self {
+        match joint {
+            HouseJoint::Sharp => RawJoint { form: 0, k: 0 },
+            HouseJoint::Rounded(r) => RawJoint { form: 1, k: r.k },
+        }
+    }
+}
+
+impl From<SoftJoint> for RawJoint {
+    ghost from_gives = { λ joint raw. raw ≡ soft_fields joint };
+
+    fn from(joint: SoftJoint) -> Self {
+        RawJoint {
+            form: 2,
+            k: joint.0.k,
+        }
+    }
 }

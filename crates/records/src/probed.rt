@@ -37,6 +37,7 @@ impl Record for Probed {
             return None;
         }
         let mut centres = [Point::ORIGIN; 8];
+        // written by place: after a zip with `iter_mut` a proof knows nothing of what was written
         for (i, place) in places.chunks_exact(6).enumerate() {
             centres[i] = read_point(place)?;
         }

@@ -5,8 +5,9 @@ use scenefile::tables::Tables;
 use std::alloc::{AllocError, Global};
 use tree::node::{Entry, Node};
 
-// Tables of the greatest size that a file may ask for. Their lengths stand in the contract of `new`, and not in
-// ghost fields, since a struct that has some cannot lend four of its fields at once, as `tables` does.
+// Tables of the greatest size that a file may ask for. Their lengths stand in the contracts of `new` and `of_defaults`.
+// Tried as ghost fields: the check then makes no proof of `tables`, which lends four fields at once. Which rows a room
+// begins with is of no account.
 #[derive(Drop)]
 pub struct Room<S, J> {
     solids: Vec<S>,

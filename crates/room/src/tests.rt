@@ -7,7 +7,9 @@ use solids::probed::Probed;
 
 #[test]
 fn catalogue(rt: HostRuntime) {
-    let mut room = Room::<CatalogueSolid, HouseJoint>::of_defaults(rt.alloc()).expect(&rt, "memory");
+    let mut room = Room::<CatalogueSolid, HouseJoint>::of_defaults(rt.alloc()).expect(
+        &rt, "memory",
+    );
     let tables = room.tables();
     assert!(rt; tables.solids.len() == 512);
     assert!(rt; tables.joints.len() == 511);

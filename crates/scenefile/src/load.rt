@@ -14,15 +14,17 @@ use records::make::Make;
 use space::refusal::Refusal;
 use tree::node::Node;
 
-// How many rows each table has.
-fn rooms<S, J>(tables: &Tables<'_, S, J>) -> Rooms
-    ensures { result ≡ rooms_of (held tables.now) }
-{
-    Rooms {
-        solids: tables.solids.len(),
-        joints: tables.joints.len(),
-        nodes: tables.nodes.len(),
-        list: tables.list.len(),
+impl<'a, S, J> Tables<'a, S, J> {
+    // How many rows each table has.
+    fn rooms(&self) -> Rooms
+        ensures { result ≡ rooms_of (held self.now) }
+    {
+        Rooms {
+            solids: self.solids.len(),
+            joints: self.joints.len(),
+            nodes: self.nodes.len(),
+            list: self.list.len(),
+        }
     }
 }
 
@@ -37,7 +39,7 @@ pub fn load<M: Make>(
 {
     // an array of the greatest size: the library has no heap
     let mut own = [Node::default(); 1023];
-    let file = check::<M>(bytes, rooms(tables), &mut own)?;
+    let file = check::<M>(bytes, tables.rooms(), &mut own)?;
     let counts = file.counts;
     let rows = &own[..counts.nodes];
     fill(file.solids(), counts.solids, tables.solids);

@@ -23,12 +23,7 @@ fn is_within(node: Node, solids: usize, joints: usize) -> bool
 fn read_within(bytes: &[u8], solids: usize, joints: usize) -> Option<Node>
     ensures { MatchOption result (NoNode solids joints bytes.now) (λ x. (node_record x ≡ bytes.now) × (named solids joints (node_symbol x) ≡ true)) }
 {
-    let node = Node::read(bytes)?;
-    if is_within(node, solids, joints) {
-        Some(node)
-    } else {
-        None
-    }
+    Node::read(bytes).filter(|node| is_within(*node, solids, joints))
 }
 
 // Reads a table's nodes, or answers the place of the first record that is none's.
@@ -41,6 +36,7 @@ pub(crate) fn read_nodes(
     requires { length table.now ≡ 4 * length into.old }
     ensures { MatchOption result ((map node_record into.new ≡ rows table.now 0 4 (length into.old)) × (all_named solids joints (map node_symbol into.new) ≡ true) × ((k : ℕ) → k < length into.old → NoNode solids joints (row table.now 0 4 k) → ⊥)) (λ i. First (λ k. NoNode solids joints (row table.now 0 4 k)) (length into.old) i) }
 {
+    // written by place: after a zip with `iter_mut` a proof knows nothing of what was written
     for (i, record) in table.chunks_exact(Node::LENGTH).enumerate() {
         match read_within(record, solids, joints) {
             Some(node) => into[i] = node,

@@ -37,17 +37,14 @@ pub(crate) fn find_order_fault(nodes: &[Node]) -> Option<usize>
 fn is_solid(node: Node) -> bool
     ensures { result ≡ is_solid (node_symbol node) }
 {
-    matches!(node.kind, NodeKind::Solid)
+    node.kind == NodeKind::Solid
 }
 
 // Whether a node names this solid.
 fn is_named(node: Node, solid: usize) -> bool
     ensures { result ≡ names_it solid (node_symbol node) }
 {
-    match node.kind {
-        NodeKind::Solid => usize::from(node.number) == solid,
-        _ => false,
-    }
+    is_solid(node) && usize::from(node.number) == solid
 }
 
 // Whether some node does.

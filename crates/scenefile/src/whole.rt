@@ -7,7 +7,7 @@ use tree::node::{Blend, Entry, EntryKind, Node, NodeKind};
 fn is_cut(node: Node) -> bool
     ensures { result ≡ is_cut_kind node.kind }
 {
-    matches!(node.kind, NodeKind::Cut)
+    node.kind == NodeKind::Cut
 }
 
 // Whether the node after this place is a cut.
@@ -41,6 +41,7 @@ pub(crate) fn write_whole(nodes: &[Node], list: &mut [Entry])
     ensures front { take (length nodes.now) list.new ≡ whole_entries nodes.now }
     ensures rest { drop (length nodes.now) list.new ≡ drop (length nodes.now) list.old }
 {
+    // written by place: after a zip with `iter_mut` a proof knows nothing of what was written
     for (i, node) in nodes.iter().enumerate() {
         list[i] = entry_of(*node, cut_after(nodes, i));
     }

@@ -27,7 +27,7 @@ where
         .try_collect(heap)
 }
 
-// What is asked of scenes. Each kind counts for how many answers some further thing holds.
+// What is asked of scenes. Each kind keeps a count of its own.
 pub(crate) trait Ask: Drop {
     // The text that a line comes to.
     fn answer<S: Solid, J: Joint>(

@@ -93,12 +93,7 @@ impl Ask for Paths {
         if path.len() > 7 {
             return Err(anyhow!("a path is too long"));
         }
-        let first = Entry {
-            kind: EntryKind::Solid,
-            turned: false,
-            number: 0,
-        };
-        let mut store = vec![in heap; first; STORE]?;
+        let mut store = vec![in heap; Entry::default(); STORE]?;
         let held = scene.whole();
         self.follow(
             heap,

@@ -16,7 +16,10 @@ use space::refusal::Refusal;
 
 // The scene in the fronts of tables.
 fn scene_of<'t, S, J>(tables: &'t Tables<'_, S, J>, counts: Counts) -> Scene<'t, S, J>
-    requires room { (counts.solids ≤ length tables.now.solids.now) × (counts.joints ≤ length tables.now.joints.now) × (counts.nodes ≤ length tables.now.nodes.now) × (counts.nodes ≤ length tables.now.list.now) }
+    requires solids_in { counts.solids ≤ length tables.now.solids.now }
+    requires joints_in { counts.joints ≤ length tables.now.joints.now }
+    requires nodes_in { counts.nodes ≤ length tables.now.nodes.now }
+    requires list_in { counts.nodes ≤ length tables.now.list.now }
     requires fine { Storable (take counts.solids tables.now.solids.now) (take counts.joints tables.now.joints.now) (take counts.nodes tables.now.nodes.now) }
     requires whole { take counts.nodes tables.now.list.now ≡ whole_entries (take counts.nodes tables.now.nodes.now) }
     ensures solids { result.solids.now ≡ take counts.solids tables.now.solids.now }
