@@ -21,7 +21,7 @@ fn check_tree(file: &File<'_>, table: &mut [Node]) -> Result<(), Refusal>
 {
     let counts = file.counts;
     let nodes = &mut table[..counts.nodes];
-    if let Some(i) = read_nodes(file.nodes(), counts.solids, counts.joints, nodes) {
+    if let Err(i) = read_nodes(file.nodes(), counts.solids, counts.joints, nodes) {
         return Err(Refusal::Node(i as u16));
     }
     if let Some(i) = find_order_fault(nodes) {

@@ -1,5 +1,5 @@
 // The node table of a scene file.
-ghost use Rattle.std.specs.Prelude.{◌≡◌, ℕ, ◌*◌, ◌<◌, ◌≤◌, true, map, length, take, drop, MatchOption};
+ghost use Rattle.std.specs.Prelude.{◌≡◌, ℕ, ◌*◌, ◌<◌, ◌≤◌, true, map, length, take, drop, MatchOption, MatchResult};
 ghost use Rattle.records.specs.Node.{node_record};
 ghost use Rattle.scene.specs.Lists.{named, all_named};
 ghost use Rattle.scenefile.specs.Checks.{NoNode};
@@ -32,18 +32,18 @@ pub(crate) fn read_nodes(
     solids: usize,
     joints: usize,
     into: &mut [Node],
-) -> Option<usize>
+) -> Result<(), usize>
     requires { length table.now ≡ 4 * length into.old }
-    ensures { MatchOption result ((map node_record into.new ≡ rows table.now 0 4 (length into.old)) × (all_named solids joints (map node_symbol into.new) ≡ true) × ((k : ℕ) → k < length into.old → NoNode solids joints (row table.now 0 4 k) → ⊥)) (λ i. First (λ k. NoNode solids joints (row table.now 0 4 k)) (length into.old) i) }
+    ensures { MatchResult result (λ _. (map node_record into.new ≡ rows table.now 0 4 (length into.old)) × (all_named solids joints (map node_symbol into.new) ≡ true) × ((k : ℕ) → k < length into.old → NoNode solids joints (row table.now 0 4 k) → ⊥)) (λ i. First (λ k. NoNode solids joints (row table.now 0 4 k)) (length into.old) i) }
 {
     // written by place: after a zip with `iter_mut` a proof knows nothing of what was written
     for (i, record) in table.chunks_exact(Node::LENGTH).enumerate() {
         match read_within(record, solids, joints) {
             Some(node) => into[i] = node,
-            None => return Some(i),
+            None => return Err(i),
         }
     }
-    None
+    Ok(())
 }
 
 // Copies nodes into the front of a table.

@@ -5,13 +5,13 @@ use Rattle.scenefile.proofs.Chains.{order_refused, order_pass, unused_refused, t
 use Rattle.scenefile.proofs.NodeTable.{read_refused, read_pass, read_rows}
 use Rattle.scenefile.proofs.check.check_tree.Goals as goal
 
+pub returns-in-Err : goal.returns-in-Err
+returns-in-Err c =
+    let file = c.args.file.now in
+    inl (read_refused file.size file.bytes.now file.counts file.counted c.nodes.result.now c.nodes.ensures.value c.args.table.now c.requires c.in-Err.i c.in-Err.ensures)
+
 pub returns-in-Some : goal.returns-in-Some
 returns-in-Some c =
-    let file = c.args.file.now in
-    inl (read_refused file.size file.bytes.now file.counts file.counted c.nodes.result.now c.nodes.ensures.value c.args.table.now c.requires c.in-Some.i c.in-Some.ensures)
-
-pub returns-in-Some-find_order_fault : goal.returns-in-Some-find_order_fault
-returns-in-Some-find_order_fault c =
     let file = c.args.file.now in
     let bytes = file.bytes.now in
     let nodes = c.read_nodes.new.into in
@@ -19,7 +19,7 @@ returns-in-Some-find_order_fault c =
     let are = read_rows file.size bytes file.counts file.counted c.nodes.result.now c.nodes.ensures.value c.args.table.now c.requires nodes read.0 in
     inr (
       read_pass file.size bytes file.counts file.counted c.nodes.result.now c.nodes.ensures.value c.args.table.now c.requires read.2,
-      inl (order_refused file.size bytes file.counts file.counted nodes are c.in-Some-find_order_fault.i c.in-Some-find_order_fault.ensures.value),
+      inl (order_refused file.size bytes file.counts file.counted nodes are c.in-Some.i c.in-Some.ensures.value),
     )
 
 pub returns-in-Some-find_unused : goal.returns-in-Some-find_unused
