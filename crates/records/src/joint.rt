@@ -34,6 +34,7 @@ fn read_raw_joint(bytes: &[u8]) -> Option<RawJoint>
     })
 }
 
+// The range of k stands with the rule of each form that has one.
 impl Record for HouseJoint {
     const LENGTH: usize = 4;
 

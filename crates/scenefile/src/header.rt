@@ -7,7 +7,8 @@ ghost use Rattle.space.specs.declared.refusal.Table.TheVariants.{Solids, Joints,
 use crate::counts::{Counts, Rooms};
 use space::refusal::{Refusal, Table};
 
-// The header of a file that is long enough for one.
+// The header of a file that is long enough for one. Its counts are handed beside it and are no field: they are what the
+// header comes to for a make, and it may come to a refusal.
 #[derive(Clone, Copy)]
 pub(crate) struct Header<'a> {
     bytes: &'a [u8],

@@ -2,7 +2,8 @@
 ghost use Rattle.std.specs.Prelude.{◌≡◌, ◌++◌};
 ghost use Rattle.records.specs.LittleEndian.{u16_le, u32_le};
 
-// The make, the counts of the tables, and where each begins.
+// The make, the counts of the tables, and where each begins; numbers, and no struct, since the reader's header is one
+// with the bytes that it was read from.
 pub(crate) fn header(
     make: u16,
     solids: u16,

@@ -14,7 +14,7 @@ use scenefile::load::load;
 use scenefile::tables::Tables;
 use space::refusal::Refusal;
 
-// The scene in the fronts of tables.
+// The scene in the fronts of tables. The reader makes its own out of the tables, since it has to outlive their struct.
 fn scene_of<'t, S, J>(tables: &'t Tables<'_, S, J>, counts: Counts) -> Scene<'t, S, J>
     requires solids_in { counts.solids ≤ length tables.now.solids.now }
     requires joints_in { counts.joints ≤ length tables.now.joints.now }
