@@ -24,7 +24,8 @@ const PATHS: u32 = 22;
 
 const MARCHES: u32 = 13;
 
-// Replays this many scenes of a kind, whose files are named for it.
+// Replays this many scenes of a kind, whose files are named for it. A loop over numbers, since each is part of the names
+// of a scene's files and indexes nothing.
 fn scenes<'r, A: Ask>(
     rt: &'r HostRuntime,
     kind: &str,
