@@ -1,20 +1,12 @@
 -- What the checks give the loading. Assumes nothing.
-use Rattle.std.proofs.Common.{◌≡◌, ℕ, ◌*◌, ◌<◌, ◌≤◌, Bool, true, false, cond, List, [], ◌∷◌, ◌++◌, map, length, take, Some, sym, ap, ◌∙◌, subst, inl, inr, arith, length-take-le}
+use Rattle.std.proofs.Common.{◌≡◌, ℕ, ◌*◌, ◌<◌, ◌≤◌, List, length, take, sym, ap, ◌∙◌, subst, arith, length-take-le}
 use Rattle.records.specs.Format.{Format}
-use Rattle.scene.specs.Used.{names}
-use Rattle.scenefile.specs.Checks.{Refused, Checked, solid_rows, joint_rows}
-use Rattle.scenefile.specs.Header.{first_fault, count_faults, layout_faults, room_faults, count, solids_start, joints_start}
-use Rattle.scenefile.specs.Load.{UnusedSolid}
+use Rattle.scenefile.specs.Checks.{Checked, solid_rows, joint_rows}
+use Rattle.scenefile.specs.Header.{solids_start, joints_start}
 use Rattle.scenefile.specs.Rows.{part, row, rows, Nobodys}
 use Rattle.scenefile.specs.declared.counts.Counts.{Counts}
 use Rattle.scenefile.specs.declared.counts.Rooms.{Rooms}
-use Rattle.space.specs.Refusals.{number}
-use Rattle.space.specs.declared.refusal.Refusal.{Refusal}
-use Rattle.space.specs.declared.refusal.Refusal.TheVariants.{Unused}
-use Rattle.space.specs.declared.refusal.Table.TheVariants.{Solids}
 use Rattle.scenefile.proofs.Walks.{none_in, rows_of, joints_part}
-use Rattle.std.specs.List.{AllByRecursion}
-use Rattle.tree.specs.Rows.{node_symbol}
 use Rattle.tree.specs.declared.node.Node.{Node}
 
 module _ {S J : Type 0} (f : Format S J) (bytes : List ℕ) (rooms : Rooms) (c : Counts) (nodes : List Node) (checked : Checked f bytes rooms c nodes) (table : List ℕ) where
@@ -51,34 +43,3 @@ module _ {S J : Type 0} (f : Format S J) (bytes : List ℕ) (rooms : Rooms) (c :
 -- the first n of a list, in their length and as they are
 pub front_is : {X : Type 0} (xs : List X) (n : ℕ) → n ≤ length xs → (P : ℕ → List X → Type 0) → P (length (take n xs)) (take n xs) → P n (take n xs)
 front_is xs n h P given = subst (λ k. P k (take n xs)) (length-take-le n xs h) given
-
--- ---- the refusal for an unused solid
-
--- a refusal has one number
-other : {X : Type 0} {e f g : Refusal} → e ≡ f → e ≡ g → (number f ≡ number g → ⊥) → X
-other p q apart = absurd (apart (ap number (sym p ∙ q)))
-
-low : (l : List (Bool × Refusal)) (e : Refusal) → AllByRecursion (λ x. number x.1 ≤ 6) l → first_fault l ≡ Some e → number e ≤ 6
-low [] e all fault = let z : ◌≡◌ {A = ℕ} 0 1 = cc in omega arith
-low (x ∷ rest) e all fault = go x.0 fault (low rest e all.1)
-  where
-    go : (b : Bool) → cond b (Some x.1) (first_fault rest) ≡ Some e → (first_fault rest ≡ Some e → number e ≤ 6) → number e ≤ 6
-    go true found later = let same : x.1 ≡ e = cc in subst (λ r. number r ≤ 6) same all.0
-    go false found later = later found
-
-pub unused_solid : {S J : Type 0} (f : Format S J) (bytes : List ℕ) (rooms : Rooms) (e : Refusal) → Refused f bytes rooms e → (n : ℕ) → e ≡ Unused n → UnusedSolid f.size bytes n
-unused_solid f bytes rooms e (inl header) n is =
-    let small = low (count_faults f.make bytes ++ (layout_faults f.size bytes ++ room_faults bytes rooms)) e (omega arith) header in
-    absurd (let f : ⊥ = omega (arith, ap number is) in f)
-unused_solid f bytes rooms e (inr (_, inl bad)) n is = other bad.1 is (omega arith)
-unused_solid f bytes rooms e (inr (_, inr (_, inl bad))) n is = other bad.1 is (omega arith)
-unused_solid f bytes rooms e (inr (_, inr (_, inr (_, inl bad)))) n is = other bad.1 is (omega arith)
-unused_solid f bytes rooms e (inr (_, inr (_, inr (_, inr (_, inl bad))))) n is = other bad.2.1 is (omega arith)
-unused_solid f bytes rooms e (inr (_, inr (_, inr (_, inr (_, inr (_, bad)))))) n is =
-    let same : bad.2.0 ≡ n = cc in
-    record {
-      below = subst (λ k. k < count Solids bytes) same bad.2.2;
-      nodes = bad.0;
-      nodes_are = bad.1;
-      unnamed = subst (λ k. names k (map node_symbol bad.0) ≡ false) same bad.2.3;
-    }

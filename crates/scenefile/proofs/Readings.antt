@@ -1,19 +1,13 @@
 -- What reading a record tells. Assumes nothing.
-use Rattle.std.proofs.Common.{◌≡◌, ℕ, zero, suc, ◌+◌, ◌<◌, Bool, true, false, List, [], ◌∷◌, ◌++◌, map, length, take, drop, set, is_some, Some, None, Option, sym, refl, ap, ◌∙◌, arith}
+use Rattle.std.proofs.Common.{◌≡◌, ℕ, zero, suc, ◌+◌, ◌<◌, true, List, [], ◌∷◌, ◌++◌, map, length, take, drop, set, sym, refl, ap, ◌∙◌, arith}
 use Rattle.std.proofs.lemmas.List.FromFn.{map-range_with_len_more}
 use Rattle.std.proofs.lemmas.List.{take_more_set, map-append}
 use Rattle.std.proofs.lemmas.Bool.{and_parts, and_from}
-use Rattle.records.specs.Reads.{Reads}
 use Rattle.scene.specs.Lists.{named, all_named}
-use Rattle.scenefile.specs.Rows.{row, rows, Nobodys}
+use Rattle.scenefile.specs.Rows.{row, rows}
 use Rattle.tree.specs.Rows.{node_symbol}
 use Rattle.tree.specs.Spell.{Symbol}
 use Rattle.tree.specs.declared.node.Node.{Node}
-
--- what is read is somebody's
-pub somebodys : {X : Type 0} (written : X → List ℕ) (bytes : List ℕ) (o : Option X) → Reads written bytes o → is_some o ≡ true → Nobodys written bytes → ⊥
-somebodys written bytes None reads some nobody = let z : ◌≡◌ {A = Bool} false true = some in let y : ◌≡◌ {A = ℕ} 0 1 = cc in omega arith
-somebodys written bytes (Some x) reads some nobody = nobody x reads
 
 -- a write below n leaves what lies from n on
 pub drop_set : {X : Type 0} (xs : List X) (i n : ℕ) (x : X) → i < n → drop n (set xs i x) ≡ drop n xs
