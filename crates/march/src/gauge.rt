@@ -11,7 +11,8 @@ use space::point::Point;
 
 pub trait Gauge {
     // what the gauge must hold for its readings, from its making on. Every call that reads through a gauge asks it: a kind
-    // whose type says less than it must hold is a kind of gauge too
+    // whose type says less than it must hold is a kind of gauge too. And every such call promises that the gauge still holds
+    // it and means the same, since its caller reads on
     ghost holds: { Self → Type 0 };
 
     // the distance that it means at a point

@@ -22,6 +22,7 @@ pub fn read<'a, M: Make>(
 {
     match load::<M>(bytes, &mut tables) {
         Ok(counts) => {
+            // made out of the tables, and not as the writer makes its own: this scene outlives their struct
             let Tables {
                 solids,
                 joints,

@@ -11,6 +11,7 @@ pub(crate) fn first_bad<R: Record + Drop>(table: &[u8], n: usize) -> Option<usiz
     ensures { MatchOption result ((k : ℕ) → k < n → Nobodys R.written (row table.now 0 R.LENGTH k) → ⊥) (λ i. First (λ k. Nobodys R.written (row table.now 0 R.LENGTH k)) n i) }
 {
     let mut rest = table;
+    // the range counts the places, one of which is the answer
     for i in 0..n {
         let (record, after) = rest.split_at(R::LENGTH);
         if R::read(record).is_none() {

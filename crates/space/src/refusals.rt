@@ -61,6 +61,7 @@ impl Refusal {
 }
 
 impl Table {
+    // its place in a refusal; a method, and no From: a table has no number elsewhere
     pub fn place(self) -> u16
         ensures { result ≡ table_place self }
     {

@@ -36,7 +36,7 @@ pub enum EntryKind {
 }
 
 // A row of a list that is evaluated: a node, with no cut among the kinds. A type of its own, and not Node over another
-// kind: no code serves both.
+// kind: no code serves both, and such a type would be named with its kind in every clause.
 #[derive(Clone, Copy, PartialEq, Eq, Debug, Default)]
 pub struct Entry {
     pub kind: EntryKind,

@@ -37,6 +37,11 @@ pub(crate) trait Ask: Drop {
         line: &str,
     ) -> anyhow::Result<String>;
 
+    // Whether these are a line and its answer: what stands behind the last line feed is no line.
+    fn is_line(line: &str, _wanted: &str) -> bool {
+        !line.is_empty()
+    }
+
     // Whether the scene's file is right, where that is asked.
     fn file_is_right<M: Make>(
         &mut self,

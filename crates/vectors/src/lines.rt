@@ -15,6 +15,11 @@ pub(crate) struct Lines {
 }
 
 impl Ask for Lines {
+    // A line of a script may be empty; its answer never is.
+    fn is_line(_line: &str, wanted: &str) -> bool {
+        !wanted.is_empty()
+    }
+
     fn answer<S: Solid, J: Joint>(
         &mut self,
         heap: Global,

@@ -14,15 +14,16 @@ pub(crate) struct Marches {
     pub(crate) met: u32,
 }
 
-// A motion's line: the coordinates of both points, then the margin.
+// A motion's line: the coordinates of both points, then the margin. Numbers that are not there are 0.
 fn read_motion(heap: Global, line: &str) -> anyhow::Result<Motion> {
-    let numbers = numbers::<i32>(heap, line)?;
-    let [ax, ay, az, bx, by, bz, margin] = numbers.as_slice() else {
-        return Err(anyhow!("a motion has seven numbers"));
-    };
-    Motion::new([*ax, *ay, *az], [*bx, *by, *bz], *margin).map_err(|_| anyhow!(
-        "a motion is outside"
-    ))
+    let given = numbers::<i32>(heap, line)?;
+    if given.len() > 7 {
+        return Err(anyhow!("a motion has too many numbers"));
+    }
+    let mut numbers = [0; 7];
+    numbers[..given.len()].copy_from_slice(given.as_slice());
+    let [ax, ay, az, bx, by, bz, margin] = numbers;
+    Motion::new([ax, ay, az], [bx, by, bz], margin).map_err(|_| anyhow!("a motion is outside"))
 }
 
 impl Ask for Marches {

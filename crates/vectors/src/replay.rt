@@ -50,8 +50,7 @@ impl<'r, A: Ask> Replay<'r, A> {
                     println!(self.rt; "{name}: written back, its bytes differ")?;
                 }
                 for (line, wanted) in case.script.split('\n').zip(case.wanted.split('\n')) {
-                    // what stands behind the last line feed is no line
-                    if !line.is_empty() || !wanted.is_empty() {
+                    if A::is_line(line, wanted) {
                         let text = self.ask.answer(heap, &scene, line)?;
                         self.compare(name, line, text.as_str(), wanted)?;
                     }
