@@ -4,8 +4,6 @@ use records::make::Make;
 use scene::scene::Scene;
 use solids::solid::Solid;
 use std::alloc::Global;
-use std::error::Error;
-use std::str::FromStr;
 
 // A file, and a script for it: a line each, each with a line feed, with what each comes to. A refused file has
 // its refusal as the only answer.
@@ -17,25 +15,16 @@ pub(crate) struct Case<'a> {
     pub(crate) wanted: &'a str,
 }
 
-// The numbers of a line, which stand with a space between them.
-pub(crate) fn numbers<T: FromStr + Drop>(heap: Global, line: &str) -> anyhow::Result<Vec<T>>
-where
-    T::Err: Error,
-{
-    line.split(' ')
-        .map(|word| -> anyhow::Result<T> { Ok(word.parse::<T>()?) })
-        .try_collect(heap)
-}
-
 // What is asked of scenes. Each kind keeps a count of its own.
 pub(crate) trait Ask: Drop {
-    // The text that a line comes to.
+    // Writes what a line comes to into a text, which is empty before.
     fn answer<S: Solid, J: Joint>(
         &mut self,
         heap: Global,
         scene: &Scene<'_, S, J>,
         line: &str,
-    ) -> anyhow::Result<String>;
+        text: &mut String,
+    ) -> anyhow::Result<()>;
 
     // Whether these are a line and its answer: what stands behind the last line feed is no line.
     fn is_line(line: &str, _wanted: &str) -> bool {

@@ -22,14 +22,16 @@ impl Ask for Lines {
 
     fn answer<S: Solid, J: Joint>(
         &mut self,
-        heap: Global,
+        _heap: Global,
         scene: &Scene<'_, S, J>,
         line: &str,
-    ) -> anyhow::Result<String> {
-        Ok(match answer(scene, line) {
-            Ok(answer) => format!(in heap; "{answer}")?,
-            Err(fault) => format!(in heap; "{fault}")?,
-        })
+        text: &mut String,
+    ) -> anyhow::Result<()> {
+        match answer(scene, line) {
+            Ok(answer) => write!(text, "{answer}")?,
+            Err(fault) => write!(text, "{fault}")?,
+        }
+        Ok(())
     }
 
     // Writes the scene back and compares the bytes with the file's.

@@ -91,11 +91,11 @@ fn run(rt: &HostRuntime) -> anyhow::Result<()> {
     } = damaged(rt)?;
     println!(rt; "damaged files: {all} refused, {written} accepted, {differ} differ")?;
     let Replay {
-        ask: Paths { far },
+        ask: Paths { far, .. },
         all,
         differ,
         ..
-    } = scenes(rt, "path", Paths { far: 0 }, PATHS)?;
+    } = scenes(rt, "path", Paths::new(rt.alloc())?, PATHS)?;
     println!(rt; "paths: {all} followed, {far} of them to far cells, {differ} differ")?;
     let Replay {
         ask: Marches { met },

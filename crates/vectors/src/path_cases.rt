@@ -1,6 +1,6 @@
 // Paths through scenes, and what an independent model finds at their ends: a near cell's list, entry by entry, or
 // a far cell's constant.
-use crate::case::{Ask, numbers};
+use crate::case::Ask;
 use anyhow::anyhow;
 use cells::cell::Cell;
 use descent::child::Child;
@@ -15,15 +15,24 @@ use tree::node::{Blend, Entry, EntryKind};
 // room for the lists of seven levels, each as long as the longest whole list
 const STORE: usize = 7161;
 
-// What paths lead to; how many of them lead to far cells.
-#[derive(Clone, Copy)]
+// What paths lead to; how many of them lead to far cells, and the store for the lists on the way, made once.
+#[derive(Drop)]
 pub(crate) struct Paths {
     pub(crate) far: u32,
+    store: Vec<Entry>,
 }
 
-// A list: each entry's kind, turn and number.
-fn list_text(heap: Global, list: &[Entry]) -> Result<String, AllocError> {
-    let mut text = String::new(heap);
+impl Paths {
+    pub(crate) fn new(heap: Global) -> Result<Paths, AllocError> {
+        Ok(Paths {
+            far: 0,
+            store: vec![in heap; Entry::default(); STORE]?,
+        })
+    }
+}
+
+// Writes a list: each entry's kind, turn and number.
+fn write_list(list: &[Entry], text: &mut String) -> Result<(), AllocError> {
     for entry in list {
         if !text.is_empty() {
             text.push(' ')?;
@@ -37,71 +46,70 @@ fn list_text(heap: Global, list: &[Entry]) -> Result<String, AllocError> {
         let number = entry.number;
         write!(text, "{kind}:{turned}:{number}")?;
     }
-    Ok(text)
+    Ok(())
 }
 
-impl Paths {
-    // What the rest of a path leads to from a near cell.
-    fn follow<S: Solid, J: Joint>(
-        &mut self,
-        heap: Global,
-        held: &Listing<S, J>,
-        cell: Cell,
-        factor: u8,
-        path: &[u8],
-        free: &mut [Entry],
-    ) -> anyhow::Result<String> {
-        let [number, rest @ ..] = path else {
-            return Ok(list_text(heap, held.list)?);
-        };
-        let Some(child) = cell.child(*number) else {
-            return Err(anyhow!("a path has no such child"));
-        };
-        let Ok(end) = descend(held, child, factor, free) else {
-            return Err(anyhow!("the store is too short for a path"));
-        };
-        match end {
-            Child::Far(constant) => {
-                self.far = self.far.saturating_add(1);
-                Ok(format!(in heap; "far {constant}")?)
-            }
-            Child::Near(length) => {
-                let (list, more) = free.split_at_mut(length);
-                let next = Listing {
-                    solids: held.solids,
-                    joints: held.joints,
-                    list,
-                };
-                self.follow(heap, &next, child, factor, rest, more)
-            }
+// The constant of the far cell that the rest of a path leads to from a near cell; none where the path ends near, and its
+// list is written into an empty text.
+fn follow<S: Solid, J: Joint>(
+    held: &Listing<S, J>,
+    cell: Cell,
+    factor: u8,
+    path: &[u8],
+    free: &mut [Entry],
+    text: &mut String,
+) -> anyhow::Result<Option<i32>> {
+    let [number, rest @ ..] = path else {
+        write_list(held.list, text)?;
+        return Ok(None);
+    };
+    let Some(child) = cell.child(*number) else {
+        return Err(anyhow!("a path has no such child"));
+    };
+    let Ok(end) = descend(held, child, factor, free) else {
+        return Err(anyhow!("the store is too short for a path"));
+    };
+    match end {
+        Child::Far(constant) => Ok(Some(constant)),
+        Child::Near(length) => {
+            let (list, more) = free.split_at_mut(length);
+            let next = Listing {
+                solids: held.solids,
+                joints: held.joints,
+                list,
+            };
+            follow(&next, child, factor, rest, more, text)
         }
     }
 }
 
 impl Ask for Paths {
-    // A path's line: the far factor, then the children's numbers from the whole cube down.
+    // A path's line: the far factor, then the children's numbers from the whole cube down. The ninth number is read, and
+    // is one too many; what follows it is not looked at.
     fn answer<S: Solid, J: Joint>(
         &mut self,
         heap: Global,
         scene: &Scene<'_, S, J>,
         line: &str,
-    ) -> anyhow::Result<String> {
-        let numbers = numbers::<u8>(heap, line)?;
+        text: &mut String,
+    ) -> anyhow::Result<()> {
+        let numbers: Vec<u8> = line
+            .split(' ')
+            .take(9)
+            .map(|word| -> anyhow::Result<u8> { Ok(word.parse::<u8>()?) })
+            .try_collect(heap)?;
         let [factor, path @ ..] = numbers.as_slice() else {
             return Err(anyhow!("a path has no far factor"));
         };
         if path.len() > 7 {
             return Err(anyhow!("a path is too long"));
         }
-        let mut store = vec![in heap; Entry::default(); STORE]?;
         let held = scene.whole();
-        self.follow(
-            heap,
-            &held,
-            Cell::whole(),
-            *factor,
-            path,
-            store.as_mut_slice(),
-        )
+        let free = self.store.as_mut_slice();
+        if let Some(constant) = follow(&held, Cell::whole(), *factor, path, free, text)? {
+            self.far = self.far.saturating_add(1);
+            write!(text, "far {constant}")?;
+        }
+        Ok(())
     }
 }

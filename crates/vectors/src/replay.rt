@@ -49,9 +49,11 @@ impl<'r, A: Ask> Replay<'r, A> {
                     self.differ = self.differ.saturating_add(1);
                     println!(self.rt; "{name}: written back, its bytes differ")?;
                 }
+                let mut text = String::new(heap);
                 for (line, wanted) in case.script.split('\n').zip(case.wanted.split('\n')) {
                     if A::is_line(line, wanted) {
-                        let text = self.ask.answer(heap, &scene, line)?;
+                        text.clear();
+                        self.ask.answer(heap, &scene, line, &mut text)?;
                         self.compare(name, line, text.as_str(), wanted)?;
                     }
                 }

@@ -2,7 +2,7 @@ use Rattle.std.proofs.Common.{length, Ok, subst}
 use Rattle.descent.specs.Descent.{ReadyAgain}
 use Rattle.descent.specs.declared.child.Child.{Child}
 use Rattle.scene.proofs.Listings.{front_evaluable, listing_ordered, listing_short}
-use Rattle.vectors.proofs.path_cases.Paths.+follow.Goals as goal
+use Rattle.vectors.proofs.path_cases.+follow.Goals as goal
 
 pub split_at_mut-list-requires : goal.split_at_mut-list-requires
 split_at_mut-list-requires g t c =

@@ -1,5 +1,5 @@
 use Rattle.std.proofs.Common.{length}
-use Rattle.vectors.proofs.path_cases.Paths.+follow.Given as goal
+use Rattle.vectors.proofs.path_cases.+follow.Given as goal
 
 abbrev pub decreases-follow : goal.decreases-follow
 decreases-follow g l = length l.path.now
