@@ -17,12 +17,14 @@ pub(crate) struct Case<'a> {
 
 // What is asked of scenes. Each kind keeps a count of its own.
 pub(crate) trait Ask: Drop {
-    // Writes what a line comes to into a text, which is empty before.
+    // Writes what a line comes to into a text, which is empty before. Where that has more words than what is wanted, one
+    // word more than those is enough.
     fn answer<S: Solid, J: Joint>(
         &mut self,
         heap: Global,
         scene: &Scene<'_, S, J>,
         line: &str,
+        wanted: &str,
         text: &mut String,
     ) -> anyhow::Result<()>;
 

@@ -25,6 +25,7 @@ impl Ask for Lines {
         _heap: Global,
         scene: &Scene<'_, S, J>,
         line: &str,
+        _wanted: &str,
         text: &mut String,
     ) -> anyhow::Result<()> {
         match answer(scene, line) {

@@ -35,6 +35,7 @@ impl Ask for Marches {
         _heap: Global,
         scene: &Scene<'_, S, J>,
         line: &str,
+        _wanted: &str,
         text: &mut String,
     ) -> anyhow::Result<()> {
         match march_through(scene, read_motion(line)?) {

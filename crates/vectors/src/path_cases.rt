@@ -31,9 +31,11 @@ impl Paths {
     }
 }
 
-// Writes a list: each entry's kind, turn and number.
-fn write_list(list: &[Entry], text: &mut String) -> Result<(), AllocError> {
-    for entry in list {
+// Writes a list: each entry's kind, turn and number; of a list with more entries than what is wanted has words, one entry
+// more than those.
+fn write_list(list: &[Entry], wanted: &str, text: &mut String) -> Result<(), AllocError> {
+    let words = wanted.split(' ').count();
+    for entry in list.iter().take(words.saturating_add(1)) {
         if !text.is_empty() {
             text.push(' ')?;
         }
@@ -50,17 +52,18 @@ fn write_list(list: &[Entry], text: &mut String) -> Result<(), AllocError> {
 }
 
 // The constant of the far cell that the rest of a path leads to from a near cell; none where the path ends near, and its
-// list is written into an empty text.
+// list is written into an empty text, as far as what is wanted asks.
 fn follow<S: Solid, J: Joint>(
     held: &Listing<S, J>,
     cell: Cell,
     factor: u8,
     path: &[u8],
     free: &mut [Entry],
+    wanted: &str,
     text: &mut String,
 ) -> anyhow::Result<Option<i32>> {
     let [number, rest @ ..] = path else {
-        write_list(held.list, text)?;
+        write_list(held.list, wanted, text)?;
         return Ok(None);
     };
     let Some(child) = cell.child(*number) else {
@@ -78,7 +81,7 @@ fn follow<S: Solid, J: Joint>(
                 joints: held.joints,
                 list,
             };
-            follow(&next, child, factor, rest, more, text)
+            follow(&next, child, factor, rest, more, wanted, text)
         }
     }
 }
@@ -91,6 +94,7 @@ impl Ask for Paths {
         heap: Global,
         scene: &Scene<'_, S, J>,
         line: &str,
+        wanted: &str,
         text: &mut String,
     ) -> anyhow::Result<()> {
         let numbers: Vec<u8> = line
@@ -106,7 +110,7 @@ impl Ask for Paths {
         }
         let held = scene.whole();
         let free = self.store.as_mut_slice();
-        if let Some(constant) = follow(&held, Cell::whole(), *factor, path, free, text)? {
+        if let Some(constant) = follow(&held, Cell::whole(), *factor, path, free, wanted, text)? {
             self.far = self.far.saturating_add(1);
             write!(text, "far {constant}")?;
         }

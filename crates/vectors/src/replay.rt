@@ -53,7 +53,7 @@ impl<'r, A: Ask> Replay<'r, A> {
                 for (line, wanted) in case.script.split('\n').zip(case.wanted.split('\n')) {
                     if A::is_line(line, wanted) {
                         text.clear();
-                        self.ask.answer(heap, &scene, line, &mut text)?;
+                        self.ask.answer(heap, &scene, line, wanted, &mut text)?;
                         self.compare(name, line, text.as_str(), wanted)?;
                     }
                 }
